@@ -1,0 +1,3 @@
+mod Bits
+mod Reading
+mod Judging
