@@ -4,7 +4,7 @@ use mathlib.Core.List.{List}
 use Prim.Native.Nat.{ℕ, _-_, _/_, _%_, _^_, _≤_}
 use lib.ListN.{length}
 use lib.Dec.{eqb}
-use Rattle.words.specs.Counting.{count, span}
+use Rattle.words.specs.Counting.{sumOf, count, span}
 
 -- the letters are the symbols 1 to alphabet, a to z; symbol 0 is the edge of a word
 abbrev pub alphabet : ℕ
@@ -37,6 +37,10 @@ InRange left right = (1 ≤ left) × (left ≤ widest) × (1 ≤ right) × (righ
 -- the positions within bounds of a word of n letters
 abbrev pub positions : ℕ → ℕ → ℕ → List ℕ
 positions left right n = span left (n - right)
+
+-- positions as the bits of a number, like the marks
+abbrev pub bitsOf : List ℕ → ℕ
+bitsOf ps = sumOf (λ p. 2 ^ p) ps
 
 -- how many positions within bounds have a hyphen
 abbrev pub hyphensWithin : ℕ → ℕ → Headword → ℕ

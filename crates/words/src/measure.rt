@@ -1,8 +1,8 @@
 //! Bounds, and the hyphens of a word within them.
 ghost use mathlib.Core.Path.{_≡_};
-ghost use Prim.Native.Nat.{ℕ, _+_, _-_, _^_, _<_, _≤_};
+ghost use Prim.Native.Nat.{_<_};
 ghost use Rattle.std.specs.Results.{Cases};
-ghost use Rattle.words.specs.Words.{InRange, hyphensWithin};
+ghost use Rattle.words.specs.Words.{InRange, positions, bitsOf, hyphensWithin};
 ghost use Rattle.words.specs.Views.{headword};
 
 use crate::word::{Bounds, Word, WIDEST};
@@ -24,9 +24,9 @@ impl Bounds {
 }
 
 impl Word {
-    /// The positions within bounds, as bits like those of the marks: left to n - right.
+    /// The positions within bounds as bits, like those of the marks.
     pub fn mask(&self, bounds: Bounds) -> u64
-        ensures { λ r. ⌜ r ≡ 2 ^ (bounds .left + (now (self .entry) .len + 1 - bounds .right - bounds .left)) - 2 ^ bounds .left ⌝ }
+        ensures { λ r. ⌜ r ≡ bitsOf (positions (bounds .left) (bounds .right) (now (self .entry) .len)) ⌝ }
     {
         if self.len < bounds.left + bounds.right {
             return 0;
