@@ -1,0 +1,3 @@
+//! Texts in lent bytes: their lines.
+pub mod cursor;
+pub mod lines;
