@@ -1,4 +1,5 @@
 -- What a refusal says.
+use mathlib.Core.List.{List, [], _∷_}
 use Prim.Native.Nat.{ℕ}
 use Rattle.words.specs.declared.refusal.Refusal.{Refusal}
 use Rattle.words.specs.declared.line.LineFault.{LineFault}
@@ -7,23 +8,23 @@ use Rattle.words.specs.declared.line.LineFault.the-variants.{NoLetter, LooseMa
 -- Six numbers: its own number, the line and the column (both count from 1, columns in bytes), and the level, length
 -- and place of the pass that met it. A number that a refusal has not is 0.
 abbrev pub Refused : Type 0
-Refused = ℕ × ℕ × ℕ × ℕ × ℕ × ℕ
+Refused = List ℕ
 
 -- a refusal with its number alone
 abbrev pub bare : ℕ → Refused
-bare number = (number, 0, 0, 0, 0, 0)
+bare number = number ∷ 0 ∷ 0 ∷ 0 ∷ 0 ∷ 0 ∷ []
 
 -- one of a line of text
 abbrev pub atLine : ℕ → ℕ → Refused
-atLine number line = (number, line, 0, 0, 0, 0)
+atLine number line = number ∷ line ∷ 0 ∷ 0 ∷ 0 ∷ 0 ∷ []
 
 -- one of a byte of a line
 abbrev pub atByte : ℕ → ℕ → ℕ → Refused
-atByte number line column = (number, line, column, 0, 0, 0)
+atByte number line column = number ∷ line ∷ column ∷ 0 ∷ 0 ∷ 0 ∷ []
 
 -- the six numbers of a refusal
 abbrev pub sixOf : Refusal → Refused
-sixOf r = (r .number, r .line, r .column, r .level, r .length, r .place)
+sixOf r = r .number ∷ r .line ∷ r .column ∷ r .level ∷ r .length ∷ r .place ∷ []
 
 -- the refusals of a word line: each case of the fault, with its number and values
 abbrev pub lineRefused : LineFault → Refused

@@ -1,0 +1,9 @@
+-- The refusals of a word list.
+use Rattle.words.specs.Refusals.{Refused, atByte, lineRefused}
+use Rattle.lists.specs.declared.fault.ListFault.{ListFault}
+use Rattle.lists.specs.declared.fault.ListFault.the-variants.{Line, TooMany}
+
+-- each case of the fault, with its number and values
+abbrev pub listRefused : ListFault → Refused
+listRefused (Line f) = lineRefused f
+listRefused (TooMany line) = atByte 9 line 1
