@@ -18,7 +18,8 @@ use Rattle.std.specs.declared.result.Result.{Result}
 use Rattle.std.specs.declared.result.Result.the-variants.{Ok, Err}
 use Rattle.words.specs.declared.word.Word.{Word}
 use Rattle.words.specs.declared.line.LineFault.{LineFault}
-use Rattle.words.specs.Refusals.{Refused, atByte, lineRefused}
+use Rattle.text.specs.Refusals.{Refused, atByte}
+use Rattle.words.specs.Faults.{lineRefused}
 use Rattle.words.specs.Words.{Headword}
 use Rattle.words.specs.Line.{First, none, fault, Reading, blank, spells, refused, readingBy, reading}
 use Rattle.words.specs.Views.{headword, answer}

@@ -10,7 +10,7 @@ use lib.Dec.{leb}
 use lib.ListN.{length, getD, take}
 use Rattle.std.proofs.shelf.Lists.{length-append}
 use Rattle.std.proofs.shelf.Tests.{leb-true, leb-false}
-use Rattle.words.specs.Refusals.{Refused, atByte}
+use Rattle.text.specs.Refusals.{Refused, atByte}
 use Rattle.words.specs.Words.{Headword}
 use Rattle.words.specs.Line.{Reading, blank, spells, refused, reading}
 use Rattle.text.specs.Lines.{linesOf}

@@ -1,5 +1,6 @@
 -- The refusals of a word list.
-use Rattle.words.specs.Refusals.{Refused, atByte, lineRefused}
+use Rattle.text.specs.Refusals.{Refused, atByte}
+use Rattle.words.specs.Faults.{lineRefused}
 use Rattle.lists.specs.declared.fault.ListFault.{ListFault}
 use Rattle.lists.specs.declared.fault.ListFault.the-variants.{Line, TooMany}
 

@@ -2,7 +2,7 @@
 use mathlib.Core.List.{List}
 use mathlib.Core.Logic.{_⊎_, inl, inr}
 use Prim.Native.Nat.{ℕ}
-use Rattle.words.specs.Refusals.{Refused}
+use Rattle.text.specs.Refusals.{Refused}
 use Rattle.words.specs.Words.{Headword}
 
 -- the most words of a list

@@ -7,7 +7,7 @@ use Prim.Native.Nat.{ℕ, suc, _+_, _≤_, _<_}
 use lib.Dec.{leb}
 use lib.ListN.{length, getD, take}
 use Rattle.text.specs.Lines.{linesOf}
-use Rattle.words.specs.Refusals.{Refused, atByte}
+use Rattle.text.specs.Refusals.{Refused, atByte}
 use Rattle.words.specs.Words.{Headword}
 use Rattle.words.specs.Line.{Reading, blank, spells, refused, reading}
 use Rattle.lists.specs.Listing.{fullest, Ending, clean, stops, Content}

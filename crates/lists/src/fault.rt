@@ -1,11 +1,11 @@
 //! Why a word list breaks off.
 ghost use mathlib.Core.Path.{_≡_};
-ghost use Rattle.words.specs.Refusals.{sixOf};
+ghost use Rattle.text.specs.Refusals.{sixOf};
 ghost use Rattle.lists.specs.Faults.{listRefused};
 ghost use Rattle.lists.specs.declared.fault.ListFault.the-variants.{Line};
 
 use words::line::LineFault;
-use words::refusal::Refusal;
+use text::refusal::Refusal;
 
 /// The one fault in which a word list may end.
 #[derive(Clone, Copy)]

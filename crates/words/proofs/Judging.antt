@@ -15,7 +15,7 @@ use Rattle.std.proofs.shelf.Lists.{getD-append-left, getD-at, getD-take, getD-p
 use Rattle.std.proofs.shelf.Tests.{cases-lt, cases-bool, cases-order, ltb-true, ltb-false, leb-true, leb-false, eqb-true, eq-eqb, false≢true, both-ways}
 use Rattle.words.specs.declared.line.Kind.{Kind}
 use Rattle.words.specs.declared.line.Kind.the-variants.{Letter, Mark, Other}
-use Rattle.words.specs.Refusals.{atByte}
+use Rattle.text.specs.Refusals.{atByte}
 use Rattle.words.specs.Words.{Headword, bit, hyphen, longest}
 use Rattle.words.specs.Line.{kindOf, kindAt, symbolsOf, isLetter, bitOf, lettersTo, marksTo, afterLetter, faultOf, faultAt, First, none, fault, firstOf, orElse, firstTo, reading, readingBy, Reading, blank, spells, refused}
 use Rattle.words.specs.Grammar.{LetterAt, MarkAt, HyphenAt, BetweenLetters, Formed, WordLine, WordOf, Hopeful, Spent, Cause, noLetter, looseMark, tooLong, FaultAt, Judged}

@@ -16,7 +16,7 @@ use Rattle.std.proofs.shelf.Lists.{set-at, getD-append-left, getD-append-right,
 use Rattle.std.proofs.shelf.Tests.{cond-both, cases-lt, leb-true, le-leb, lt-leb, lt-ltb, and-parts, false≢true, cond-true}
 use Rattle.words.specs.declared.line.Kind.{Kind}
 use Rattle.words.specs.declared.line.Kind.the-variants.{Letter, Mark, Other}
-use Rattle.words.specs.Refusals.{atByte}
+use Rattle.text.specs.Refusals.{atByte}
 use Rattle.words.specs.Words.{Headword, alphabet, longest}
 use Rattle.words.specs.Line.{kindOf, kindAt, symbolsOf, isLetter, bitOf, lettersTo, marksTo, afterLetter, faultOf, faultAt, First, none, fault, firstOf, orElse, firstTo, reading, readingBy, Reading, blank, spells, refused}
 

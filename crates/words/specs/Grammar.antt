@@ -7,7 +7,7 @@ use Prim.Native.Nat.{ℕ, _+_, _-_, _≤_, _<_}
 use lib.ListN.{length, take}
 use Rattle.words.specs.declared.line.Kind.{Kind}
 use Rattle.words.specs.declared.line.Kind.the-variants.{Letter, Mark, Other}
-use Rattle.words.specs.Refusals.{Refused, atByte}
+use Rattle.text.specs.Refusals.{Refused, atByte}
 use Rattle.words.specs.Words.{Headword, hyphen, longest}
 use Rattle.words.specs.Line.{kindAt, isLetter, lettersTo, Reading, blank, spells, refused}
 

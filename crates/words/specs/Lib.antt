@@ -1,6 +1,6 @@
 pub mod Counting
 pub mod Words
-pub mod Refusals
+pub mod Faults
 pub mod Line
 pub mod Grammar
 pub mod Views

@@ -6,7 +6,7 @@ use lib.ListN.{length, getD}
 use lib.Dec.{leb, ltb, eqb}
 use Rattle.words.specs.declared.line.Kind.{Kind}
 use Rattle.words.specs.declared.line.Kind.the-variants.{Letter, Mark, Other}
-use Rattle.words.specs.Refusals.{Refused, atByte}
+use Rattle.text.specs.Refusals.{Refused, atByte}
 use Rattle.words.specs.Words.{Headword, longest}
 
 -- a letter, small or capital, with its symbol; a mark, which is a hyphen (- and *) or none (.); or neither

@@ -9,7 +9,7 @@ use Rattle.std.specs.declared.option.Option.the-variants.{Some, None}
 use Rattle.words.specs.declared.word.Word.{Word}
 use Rattle.words.specs.declared.line.LineFault.{LineFault}
 use Rattle.words.specs.Words.{Headword}
-use Rattle.words.specs.Refusals.{lineRefused}
+use Rattle.words.specs.Faults.{lineRefused}
 use Rattle.words.specs.Line.{Reading, blank, spells, refused}
 
 abbrev pub headword : Word → Headword

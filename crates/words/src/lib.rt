@@ -1,5 +1,5 @@
 //! Words with their hyphens, and how a line of a word list is read.
 pub mod line;
 pub mod measure;
-pub mod refusal;
+pub mod refusals;
 pub mod word;

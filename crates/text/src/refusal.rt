@@ -1,9 +1,6 @@
 //! What every refusal says, whatever refused.
 ghost use mathlib.Core.Path.{_≡_};
-ghost use Rattle.words.specs.Refusals.{sixOf, bare, atByte, lineRefused, rangeRefused};
-
-use crate::line::LineFault;
-use crate::measure::OutOfRange;
+ghost use Rattle.text.specs.Refusals.{sixOf, bare, atByte};
 
 /// A refusal by its numbers: which one it is; the line and the column of the text, from 1; the level, length and
 /// place of the pass that met it. A number that it has not is 0.
@@ -30,25 +27,5 @@ impl Refusal {
         ensures { λ r. ⌜ sixOf r ≡ atByte number line column ⌝ }
     {
         Refusal { number, line, column, level: 0, length: 0, place: 0 }
-    }
-}
-
-impl LineFault {
-    pub fn refusal(self) -> Refusal
-        ensures { λ r. ⌜ sixOf r ≡ lineRefused self ⌝ }
-    {
-        match self {
-            LineFault::NoLetter { line, column } => Refusal::at_byte(6, line, column),
-            LineFault::LooseMark { line, column } => Refusal::at_byte(7, line, column),
-            LineFault::TooLong { line, column } => Refusal::at_byte(8, line, column),
-        }
-    }
-}
-
-impl OutOfRange {
-    pub fn refusal(self) -> Refusal
-        ensures { λ r. ⌜ sixOf r ≡ rangeRefused ⌝ }
-    {
-        Refusal::bare(1)
     }
 }

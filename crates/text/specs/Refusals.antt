@@ -1,9 +1,7 @@
 -- What a refusal says.
 use mathlib.Core.List.{List, [], _∷_}
 use Prim.Native.Nat.{ℕ}
-use Rattle.words.specs.declared.refusal.Refusal.{Refusal}
-use Rattle.words.specs.declared.line.LineFault.{LineFault}
-use Rattle.words.specs.declared.line.LineFault.the-variants.{NoLetter, LooseMark, TooLong}
+use Rattle.text.specs.declared.refusal.Refusal.{Refusal}
 
 -- Six numbers: its own number, the line and the column (both count from 1, columns in bytes), and the level, length
 -- and place of the pass that met it. A number that a refusal has not is 0.
@@ -25,13 +23,3 @@ atByte number line column = number ∷ line ∷ column ∷ 0 ∷ 0 ∷ 0 ∷ []
 -- the six numbers of a refusal
 abbrev pub sixOf : Refusal → Refused
 sixOf r = r .number ∷ r .line ∷ r .column ∷ r .level ∷ r .length ∷ r .place ∷ []
-
--- the refusals of a word line: each case of the fault, with its number and values
-abbrev pub lineRefused : LineFault → Refused
-lineRefused (NoLetter line column) = atByte 6 line column
-lineRefused (LooseMark line column) = atByte 7 line column
-lineRefused (TooLong line column) = atByte 8 line column
-
--- a setting or bound out of range
-abbrev pub rangeRefused : Refused
-rangeRefused = bare 1
