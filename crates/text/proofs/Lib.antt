@@ -1,1 +1,5 @@
 pub mod Splitting
+mod Commas
+mod Cuts
+mod Overlays
+mod Values

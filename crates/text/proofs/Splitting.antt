@@ -9,7 +9,7 @@ use lib.Dec.{eqb}
 use lib.ListN.{length, getD, take, drop}
 use Rattle.std.proofs.shelf.Lists.{drop-more, drop-all, take-append-drop, drop-drop, length-drop, getD-take, getD-drop, length-take-le}
 use Rattle.std.proofs.shelf.Tests.{cases-lt, cond-false, ne-eqb}
-use Rattle.text.specs.Lines.{linesOf, grow, NoFeed, Begins}
+use Rattle.text.specs.Lines.{linesOf, grow, behindLine, NoFeed, Begins}
 
 lines-feed : (xs t : List ℕ) → NoFeed xs → linesOf (xs ++ 10 ∷ t) ≡ xs ∷ linesOf t
 unfolding linesOf
@@ -34,6 +34,24 @@ begins-lines text line rest b =
     ⊎-elim
     (λ (e : text ≡ line ++ 10 ∷ rest). ap linesOf e ∙ lines-feed line rest (b .clear))
     (λ p. ap linesOf (p .0) ∙ last-line line (p .2) (b .clear) ∙ ap (λ (x : List ℕ). line ∷ linesOf x) (sym (p .1)))
+    (b .parts)
+
+-- and goes on behind it with the rest
+behind-feed : (xs t : List ℕ) → NoFeed xs → behindLine (xs ++ 10 ∷ t) ≡ t
+unfolding behindLine
+behind-feed [] t f = refl
+behind-feed (x ∷ xs) t f = cond-false (eqb x 10) _ _ (ne-eqb x 10 (f 0 (omega arith))) ∙ behind-feed xs t (λ k h. f (suc k) (omega arith))
+
+behind-last : (xs : List ℕ) → NoFeed xs → behindLine xs ≡ []
+unfolding behindLine
+behind-last [] f = refl
+behind-last (x ∷ xs) f = cond-false (eqb x 10) _ _ (ne-eqb x 10 (f 0 (omega arith))) ∙ behind-last xs (λ k h. f (suc k) (omega arith))
+
+pub begins-behind : (text line rest : List ℕ) → Begins text line rest → behindLine text ≡ rest
+begins-behind text line rest b =
+    ⊎-elim
+    (λ (e : text ≡ line ++ 10 ∷ rest). ap behindLine e ∙ behind-feed line rest (b .clear))
+    (λ p. ap behindLine (p .0) ∙ behind-last line (b .clear) ∙ sym (p .1))
     (b .parts)
 
 -- the part of a text from a up to its next line feed at b, or up to its end

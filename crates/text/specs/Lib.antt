@@ -1,3 +1,5 @@
 pub mod Refusals
 pub mod Lines
 pub mod Cursor
+pub mod Figures
+pub mod Written

@@ -17,6 +17,11 @@ unfoldable pub linesOf : List ℕ → List (List ℕ)
 linesOf [] = []
 linesOf (b ∷ bs) = cond (eqb b 10) ([] ∷ linesOf bs) (grow b (linesOf bs))
 
+-- the text behind its first line
+unfoldable pub behindLine : List ℕ → List ℕ
+behindLine [] = []
+behindLine (b ∷ bs) = cond (eqb b 10) bs (behindLine bs)
+
 -- no byte of the line is a line feed
 abbrev pub NoFeed : List ℕ → Type 0
 NoFeed line = (k : ℕ) → k < length line → getD line k 0 ≡ 10 → ⊥

@@ -23,3 +23,7 @@ atByte number line column = number ∷ line ∷ column ∷ 0 ∷ 0 ∷ 0 ∷ []
 -- the six numbers of a refusal
 abbrev pub sixOf : Refusal → Refused
 sixOf r = r .number ∷ r .line ∷ r .column ∷ r .level ∷ r .length ∷ r .place ∷ []
+
+-- text memory that is shorter than the text
+abbrev pub shortRefused : Refused
+shortRefused = bare 15

@@ -48,11 +48,4 @@ impl<'a> Lines<'a> {
         self.number += 1;
         Some(&text[start..end])
     }
-
-    /// The text behind the lines that were read.
-    pub fn rest(&self) -> &'a [u8]
-        ensures { λ r. ⌜ now r ≡ unread (now (self .entry)) ⌝ }
-    {
-        &self.text[self.pos..]
-    }
 }

@@ -1,0 +1,2 @@
+//! Checks the word list in a sheet on standard input.
+fn main() {}

@@ -1,0 +1,5 @@
+pub mod Faults
+pub mod Sheets
+pub mod Taken
+pub mod Outcomes
+pub mod Views

@@ -1,5 +1,0 @@
-use Rattle.std.proofs.shelf.Lists.{take-rest}
-use Rattle.text.proofs.cursor.Lines.rest.Needs as need
-
-pub returns : need.returns
-returns c = take-rest (c .args .self .now .text .now) (c .args .self .now .pos)
