@@ -57,8 +57,7 @@ pub impl<'a> WordList for TextList<'a> as TextWords {
     }
 
     fn next(&mut self) -> Result<Option<Word>, ListFault> {
-        let mut lines = self.lines;
-        let read = self.read;
+        let TextList { mut lines, read } = *self;
         let word = next_word(&mut lines, read)?;
         if word.is_some() {
             *self = TextList { lines, read: read + 1 };
