@@ -2,7 +2,6 @@
 //! front of the next such line, or with the input. Every case is answered by its first line and the run's line.
 ghost use Prim.Native.Nat.{_≤_};
 ghost use lib.ListN.{length};
-
 use sheet::writing::run;
 use std::error::AnyError;
 use std::io::Read;

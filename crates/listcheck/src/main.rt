@@ -2,7 +2,8 @@
 use lists::counting::count_list;
 use lists::textlist::TextList;
 use lists::texts::TextWords;
-use sheet::writing::{write_counts, write_refusal};
+use sheet::writing::write_counts;
+use sheet::writing::write_refusal;
 use std::env;
 use std::error::AnyError;
 use std::fs;

@@ -28,13 +28,14 @@ pass-more n l ls k p f (suc i) h = let q : suc n + i ≡ n + suc i = omega arith
 ends-more : (n : ℕ) (l : List ℕ) (ls : List (List ℕ)) (k c d : ℕ) (e : Ending) → c ≡ d → EndsThere (suc n) ls k c e → EndsThere n (l ∷ ls) (suc k) d e
 ends-more n l ls k c d (inl u) q h = ap suc h
 ends-more n l ls k c d (inr r) q h =
-    let s : suc n + k ≡ n + suc k = omega arith in
-    ( omega (arith, h .0)
-    , h .1
-    , ⊎-elim
-      (λ p. inl (sym q ∙ p .0, p .1 ∙ ap (λ (x : ℕ). atByte 9 x 1) s))
-      (λ p. inr (omega (arith, p .0), ap (λ (x : ℕ). reading x (getD ls k [])) (sym s) ∙ p .1))
-      (h .2) )
+    let s : suc n + k ≡ n + suc k = omega arith in (
+      omega (arith, h .0),
+      h .1,
+      ⊎-elim
+          (λ p. inl (sym q ∙ p .0, p .1 ∙ ap (λ (x : ℕ). atByte 9 x 1) s))
+          (λ p. inr (omega (arith, p .0), ap (λ (x : ℕ). reading x (getD ls k [])) (sym s) ∙ p .1))
+          (h .2),
+    )
 
 listed-more : (n c c′ : ℕ) (l : List ℕ) (ls : List (List ℕ)) (content : Content) (r : Reading) → reading n l ≡ r → Passes r → c + length (wordIn r) ≡ c′ →
     Listed (suc n) c′ ls content → Listed n c (l ∷ ls) (wordIn r ++ content .0, content .1)
@@ -45,7 +46,8 @@ listed-more n c c′ l ls content r e p q h =
       all = omega (arith, h .all);
       words = ap (λ (x : List Headword). wordIn r ++ x) (h .words) ∙ ap (λ (x : Reading). wordIn x ++ spelledBy (suc n) (take (h .passed) ls)) (sym e);
       pass = pass-more n l ls (h .passed) (subst Passes (sym e) p) (h .pass);
-      ends = ends-more n l ls (h .passed) _ _ (content .1) s (h .ends) }
+      ends = ends-more n l ls (h .passed) _ _ (content .1) s (h .ends);
+    }
 
 -- ---- a line at which the list stops
 
@@ -57,13 +59,15 @@ listed-stop n c l ls r h w =
       all = omega arith;
       words = refl;
       pass = λ i q. absurd (omega arith);
-      ends =
-        ( omega arith
-        , h
-        , ⊎-elim
-          (λ p. inl (add-zero c ∙ p .0, p .1 ∙ ap (λ (x : ℕ). atByte 9 x 1) (sym (add-zero n))))
-          (λ p. inr (omega (arith, p .0), ap (λ (x : ℕ). reading x l) (add-zero n) ∙ p .1))
-          w ) }
+      ends = (
+        omega arith,
+        h,
+        ⊎-elim
+            (λ p. inl (add-zero c ∙ p .0, p .1 ∙ ap (λ (x : ℕ). atByte 9 x 1) (sym (add-zero n))))
+            (λ p. inr (omega (arith, p .0), ap (λ (x : ℕ). reading x l) (add-zero n) ∙ p .1))
+            w,
+      );
+    }
 
 -- past the last word, or not
 module _ (n c : ℕ) (l : List ℕ) (ls : List (List ℕ)) (few : c ≤ fullest) (some : 0 < length l) where

@@ -1,7 +1,6 @@
 //! What a word list counts.
 ghost use mathlib.Core.Path.{_≡_};
 ghost use Rattle.lists.specs.Calls.{Counted};
-
 use crate::fault::ListFault;
 use crate::list::WordList;
 use words::word::Bounds;

@@ -3,9 +3,8 @@ ghost use mathlib.Core.Path.{_≡_};
 ghost use Rattle.text.specs.Refusals.{sixOf};
 ghost use Rattle.lists.specs.Faults.{listRefused};
 ghost use Rattle.lists.specs.declared.fault.ListFault.the-variants.{Line};
-
-use words::line::LineFault;
 use text::refusal::Refusal;
+use words::line::LineFault;
 
 /// The one fault in which a word list may end.
 #[derive(Clone, Copy)]

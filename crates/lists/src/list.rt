@@ -6,7 +6,6 @@ ghost use lib.ListN.{length};
 ghost use Rattle.words.specs.Words.{Headword};
 ghost use Rattle.lists.specs.Listing.{fullest, Ending};
 ghost use Rattle.lists.specs.Calls.{Next};
-
 use crate::fault::ListFault;
 use words::word::Word;
 

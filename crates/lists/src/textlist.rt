@@ -6,7 +6,6 @@ ghost use lib.ListN.{length, drop};
 ghost use Rattle.text.specs.Lines.{linesOf};
 ghost use Rattle.text.specs.Cursor.{unread};
 ghost use Rattle.lists.specs.Texts.{contentFrom, textWords, textEnding};
-
 use text::cursor::Lines;
 
 /// The words of a text in lent bytes: `lines` stands behind the line of the last word read.

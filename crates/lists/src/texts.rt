@@ -8,9 +8,10 @@ ghost use Rattle.text.specs.Cursor.{unread};
 ghost use Rattle.lists.specs.Texts.{contentFrom, textContent, textWords, textEnding, Listed};
 ghost use Rattle.lists.specs.Few.{text-few};
 ghost use Rattle.lists.specs.Calls.{Gives};
-
-use crate::fault::{LineInList, ListFault};
-use crate::list::{WordList, FULLEST};
+use crate::fault::LineInList;
+use crate::fault::ListFault;
+use crate::list::FULLEST;
+use crate::list::WordList;
 use crate::textlist::TextList;
 use text::cursor::Lines;
 use words::line::read_line;
@@ -39,7 +40,10 @@ impl<'a> TextList<'a> {
         ensures list { λ r. ⌜ (now (r .lines .text) ≡ now (text .entry)) × (r .read ≡ 0) ⌝ }
         ensures meaning { λ _. ⌜ Listed 1 0 (linesOf (now (text .entry))) (textContent (now (text .entry))) ⌝ }
     {
-        TextList { lines: Lines::new(text), read: 0 }
+        TextList {
+            lines: Lines::new(text),
+            read: 0,
+        }
     }
 }
 
@@ -60,7 +64,10 @@ pub impl<'a> WordList for TextList<'a> as TextWords {
         let TextList { mut lines, read } = *self;
         let word = next_word(&mut lines, read)?;
         if word.is_some() {
-            *self = TextList { lines, read: read + 1 };
+            *self = TextList {
+                lines,
+                read: read + 1,
+            };
         }
         Ok(word)
     }

@@ -2,7 +2,6 @@
 ghost use Prim.Native.Nat.{_≤_};
 ghost use lib.ListN.{length};
 ghost use Rattle.std.specs.Vec.{made};
-
 use sheet::reading::LARGEST;
 use sheet::writing::run;
 use std::error::AnyError;

@@ -29,7 +29,7 @@ pub too-long : (longer : Bool) (input : List ℕ) → (longer ≡ true) ⊎ (lar
 unfolding sheetOf
 too-long longer input h =
     sym (cond-true (longer || ltb largest (length input)) _ _
-      (⊎-elim (or-left longer (ltb largest (length input))) (λ l. or-right longer (ltb largest (length input)) (lt-ltb largest (length input) l)) h))
+    (⊎-elim (or-left longer (ltb largest (length input))) (λ l. or-right longer (ltb largest (length input)) (lt-ltb largest (length input) l)) h))
 
 -- ---- the bounds
 

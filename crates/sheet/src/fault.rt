@@ -3,7 +3,6 @@ ghost use mathlib.Core.Path.{_≡_};
 ghost use Rattle.text.specs.Refusals.{sixOf};
 ghost use Rattle.sheet.specs.Faults.{sheetRefused, runRefused};
 ghost use Rattle.sheet.specs.declared.fault.RunFault.the-variants.{Sheet, List};
-
 use lists::fault::ListFault;
 use text::refusal::Refusal;
 

@@ -7,9 +7,12 @@ ghost use Rattle.sheet.specs.Sheets.{sheetOf};
 ghost use Rattle.sheet.specs.Outcomes.{checked};
 ghost use Rattle.sheet.specs.Views.{sheeted, outcome};
 ghost use Rattle.sheet.specs.Taken.{FiguresTaken, EmptyTaken};
-
-use crate::fault::{ListInRun, RunFault, SheetFault, SheetInRun};
-use lists::counting::{count_list, ListCounts};
+use crate::fault::ListInRun;
+use crate::fault::RunFault;
+use crate::fault::SheetFault;
+use crate::fault::SheetInRun;
+use lists::counting::ListCounts;
+use lists::counting::count_list;
 use lists::textlist::TextList;
 use lists::texts::TextWords;
 use text::cursor::Lines;
@@ -66,7 +69,10 @@ pub fn read_sheet(input: &[u8], longer: bool) -> Result<Sheet, SheetFault>
     let [left, right] = take_figures::<2>(&mut lines)?;
     take_empty(&mut lines)?;
     match Bounds::new(left as usize, right as usize) {
-        Ok(bounds) => Ok(Sheet { bounds, words_at: lines.pos }),
+        Ok(bounds) => Ok(Sheet {
+            bounds,
+            words_at: lines.pos,
+        }),
         Err(_) => Err(SheetFault::OutOfRange { line: 1 }),
     }
 }

@@ -3,10 +3,10 @@ ghost use mathlib.Core.Path.{_≡_};
 ghost use Rattle.text.specs.Refusals.{sixOf};
 ghost use Rattle.text.specs.Written.{Wrote};
 ghost use Rattle.sheet.specs.Outcomes.{checked, countsLine, refusalLine, outcomeLine};
-
 use crate::reading::check;
 use lists::counting::ListCounts;
-use text::memory::{write_line, Short};
+use text::memory::Short;
+use text::memory::write_line;
 use text::refusal::Refusal;
 
 /// Writes `words,hyphens`.
@@ -20,7 +20,14 @@ pub fn write_counts(counts: ListCounts, memory: &mut [u8]) -> Result<usize, Shor
 pub fn write_refusal(refusal: Refusal, memory: &mut [u8]) -> Result<usize, Short>
     ensures { λ r. ⌜ Wrote (refusalLine (sixOf refusal)) (now (memory .entry)) r (now (memory .exit)) ⌝ }
 {
-    let six = [refusal.number as u64, refusal.line as u64, refusal.column as u64, refusal.level as u64, refusal.length as u64, refusal.place as u64];
+    let six = [
+        refusal.number as u64,
+        refusal.line as u64,
+        refusal.column as u64,
+        refusal.level as u64,
+        refusal.length as u64,
+        refusal.place as u64,
+    ];
     write_line(b"refused,", &six, memory)
 }
 

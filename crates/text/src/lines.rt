@@ -4,7 +4,6 @@ ghost use mathlib.Core.List.{[]};
 ghost use Prim.Native.Nat.{ℕ, _<_, _≤_};
 ghost use lib.ListN.{length, getD};
 ghost use Rattle.text.specs.Cursor.{unread, NextLine};
-
 use crate::cursor::Lines;
 
 /// The byte that ends a line.
@@ -30,7 +29,11 @@ impl<'a> Lines<'a> {
         ensures text { λ r. ⌜ now (r .text) ≡ now (text .entry) ⌝ }
         ensures all { λ r. ⌜ (unread r ≡ now (text .entry)) × (r .number ≡ 0) ⌝ }
     {
-        Lines { text, pos: 0, number: 0 }
+        Lines {
+            text,
+            pos: 0,
+            number: 0,
+        }
     }
 
     /// The next line, without its line feed.

@@ -6,7 +6,6 @@ ghost use lib.ListN.{length};
 ghost use Rattle.std.specs.Written.{decimal};
 ghost use Rattle.text.specs.Refusals.{sixOf, shortRefused};
 ghost use Rattle.text.specs.Written.{commaed, lineOf, overlaid, Wrote};
-
 use crate::figures::COMMA;
 use crate::refusal::Refusal;
 

@@ -26,6 +26,13 @@ impl Refusal {
     pub fn at_byte(number: u8, line: usize, column: usize) -> Refusal
         ensures { λ r. ⌜ sixOf r ≡ atByte number line column ⌝ }
     {
-        Refusal { number, line, column, level: 0, length: 0, place: 0 }
+        Refusal {
+            number,
+            line,
+            column,
+            level: 0,
+            length: 0,
+            place: 0,
+        }
     }
 }

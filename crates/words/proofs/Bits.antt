@@ -30,7 +30,7 @@ ones-numbers w (suc k) a =
     ap (λ (x : ℕ). ones (w .1 / 2 ^ a % 2 ^ x)) (sym (add-one k))
     ∙ ones-step (w .1 / 2 ^ a % 2 ^ (k + 1))
     ∙ ap₂ (λ (x y : ℕ). x + ones y) (mod-mod-pow (w .1 / 2 ^ a) k 1 ∙ sym (digit (bit (w .1) a) (omega arith)))
-      (field (w .1 / 2 ^ a) k 1 ∙ ap (λ (x : ℕ). x % 2 ^ k) (shr-shr (w .1) a 1 ∙ ap (λ (x : ℕ). w .1 / 2 ^ x) (add-one a)))
+    (field (w .1 / 2 ^ a) k 1 ∙ ap (λ (x : ℕ). x % 2 ^ k) (shr-shr (w .1) a 1 ∙ ap (λ (x : ℕ). w .1 / 2 ^ x) (add-one a)))
     ∙ ap (λ (x : ℕ). one (eqb (bit (w .1) a) 1) + x) (ones-numbers w k (suc a))
 
 ones-high : (w : Headword) (j k : ℕ) → ones (bitAnd (w .1) (2 ^ (k + j) - 2 ^ k)) ≡ count (hyphen w) (numbers k j)

@@ -121,11 +121,11 @@ module _ (line rest : List ℕ) (i : ℕ) (h : i ≤ length line) where
     next-letter j p m =
         ⊎-elim
         (λ (q : j + 1 < i). letter-as (take i line ++ rest) line (j + 1) (at-front (j + 1) q)
-          (⊎-elim (λ l. l) (λ n. absurd (both-ways (afterLetter line (j + 1)) (after-mark line j m) (n .1))) (fine-at line (j + 1) (clean-each line i (j + 1) q e))))
+        (⊎-elim (λ l. l) (λ n. absurd (both-ways (afterLetter line (j + 1)) (after-mark line j m) (n .1))) (fine-at line (j + 1) (clean-each line i (j + 1) q e))))
         (λ (q : i ≤ j + 1).
-          let s : i ≡ j + 1 = omega arith in
-          let t : i + 0 ≡ j + 1 = omega arith in
-          subst (λ (x : ℕ). LetterAt (take i line ++ rest) x) t (tail 0 (meets (ap (afterLetter line) s ∙ after-mark line j m))))
+        let s : i ≡ j + 1 = omega arith in
+        let t : i + 0 ≡ j + 1 = omega arith in
+        subst (λ (x : ℕ). LetterAt (take i line ++ rest) x) t (tail 0 (meets (ap (afterLetter line) s ∙ after-mark line j m))))
         (cases-lt (j + 1) i)
 
     each-front : (j : ℕ) → j < i → LetterAt (take i line ++ rest) j ⊎ (MarkAt (take i line ++ rest) j × BetweenLetters (take i line ++ rest) j)
@@ -133,8 +133,8 @@ module _ (line rest : List ℕ) (i : ℕ) (h : i ≤ length line) where
         ⊎-elim
         (λ l. inl (letter-as (take i line ++ rest) line j (at-front j p) l))
         (λ n.
-          let b = before-letter line j (n .1) in
-          inr ((n .0 .0, ap kindOf (at-front j p) ∙ n .0 .1), (b .0, letter-as (take i line ++ rest) line (j - 1) (at-front (j - 1) (omega arith)) (b .1), next-letter j p (n .0))))
+        let b = before-letter line j (n .1) in
+        inr ((n .0 .0, ap kindOf (at-front j p) ∙ n .0 .1), (b .0, letter-as (take i line ++ rest) line (j - 1) (at-front (j - 1) (omega arith)) (b .1), next-letter j p (n .0))))
         (fine-at line j (clean-each line i j p e))
 
     front-formed : 1 ≤ i + length rest → Formed (take i line ++ rest)
@@ -142,10 +142,11 @@ module _ (line rest : List ℕ) (i : ℕ) (h : i ≤ length line) where
         record {
           some = omega (arith, long);
           each = λ j l. ⊎-elim (each-front j)
-            (λ (p : i ≤ j).
+              (λ (p : i ≤ j).
               let t : i + (j - i) ≡ j = omega arith in
               inl (subst (λ (x : ℕ). LetterAt (take i line ++ rest) x) t (tail (j - i) (omega (arith, long)))))
-            (cases-lt j i) }
+              (cases-lt j i);
+        }
 
 -- ---- what comes before a fault could still become a word line, unless a mark follows the last letter allowed
 
@@ -155,7 +156,8 @@ ends-well line i h e a =
     let n : length (take i line ++ []) ≡ i = long line [] i h ∙ add-zero i in
     record {
       formed = front-formed line [] i h e (λ k l. absurd (omega arith)) (λ f. absurd (both-ways (afterLetter line i) f a)) (omega arith);
-      few = omega (arith, ap length (ap (lettersTo (take i line ++ [])) n ∙ front-letters line [] i h), few-clean line i e) }
+      few = omega (arith, ap length (ap (lettersTo (take i line ++ [])) n ∙ front-letters line [] i h), few-clean line i e);
+    }
 
 goes-on : (line : List ℕ) (i : ℕ) → i ≤ length line → firstTo line i ≡ none → length (lettersTo line i) < longest → WordLine (take i line ++ 97 ∷ [])
 goes-on line i h e l =
@@ -165,7 +167,8 @@ goes-on line i h e l =
     let a : LetterAt xs i = ap (λ (b : ℕ). isLetter (kindOf b)) s in
     record {
       formed = front-formed line (97 ∷ []) i h e (λ k q. let t : i ≡ i + k = omega arith in subst (λ (x : ℕ). LetterAt xs x) t a) (λ _. omega arith) (omega arith);
-      few = omega (arith, ap (λ (x : ℕ). length (lettersTo xs x)) n, letters-step xs i, letter-one (kindAt xs i) a, ap length (front-letters line (97 ∷ []) i h)) }
+      few = omega (arith, ap (λ (x : ℕ). length (lettersTo xs x)) n, letters-step xs i, letter-one (kindAt xs i) a, ap length (front-letters line (97 ∷ []) i h));
+    }
 
 spent : (line : List ℕ) (i : ℕ) → firstTo line i ≡ none → afterLetter line i ≡ false → longest ≤ length (lettersTo line i) → Spent line i
 spent line zero e a l = absurd (omega (arith, none-yet line))
@@ -175,16 +178,17 @@ spent line (suc j) e a l =
     record {
       some = omega arith;
       mark = subst (λ (x : ℕ). MarkAt line x) q
-        (⊎-elim (λ (p : LetterAt line j). absurd (false≢true (sym a ∙ b ∙ p))) (λ p. p .0) (fine-at line j (clean-each line (suc j) j (omega arith) e)));
-      all = omega (arith, few-clean line (suc j) e) }
+          (⊎-elim (λ (p : LetterAt line j). absurd (false≢true (sym a ∙ b ∙ p))) (λ p. p .0) (fine-at line j (clean-each line (suc j) j (omega arith) e)));
+      all = omega (arith, few-clean line (suc j) e);
+    }
 
 hopeful : (line : List ℕ) (i : ℕ) → i ≤ length line → firstTo line i ≡ none → Hopeful (take i line) ⊎ Spent line i
 hopeful line i h e =
     ⊎-elim (λ (a : afterLetter line i ≡ true). inl ([], ends-well line i h e a))
     (λ (a : afterLetter line i ≡ false). ⊎-elim
-      (λ (l : length (lettersTo line i) < longest). inl (97 ∷ [], goes-on line i h e l))
-      (λ (l : longest ≤ length (lettersTo line i)). inr (spent line i e a l))
-      (cases-lt (length (lettersTo line i)) longest))
+    (λ (l : length (lettersTo line i) < longest). inl (97 ∷ [], goes-on line i h e l))
+    (λ (l : longest ≤ length (lettersTo line i)). inr (spent line i e a l))
+    (cases-lt (length (lettersTo line i)) longest))
     (cases-bool (afterLetter line i))
 
 -- ---- with the offending byte it no longer can
@@ -220,7 +224,7 @@ module _ (line : List ℕ) (i : ℕ) (h : i < length line) where
   no-letter l n q =
       let xs = take (i + 1) line ++ q .0 in
       let e : length (lettersTo xs (i + 1)) ≡ length (lettersTo line i) + 1 =
-        ap length (front-letters line (q .0) (i + 1) up ∙ ap (lettersTo line) (add-one i)) ∙ letters-step line i ∙ ap (λ (x : ℕ). length (lettersTo line i) + x) (letter-one (kindAt line i) l) in
+      ap length (front-letters line (q .0) (i + 1) up ∙ ap (lettersTo line) (add-one i)) ∙ letters-step line i ∙ ap (λ (x : ℕ). length (lettersTo line i) + x) (letter-one (kindAt line i) l) in
       omega (arith, e, letters-grow xs (i + 1) (length xs) (omega (arith, byte-there (q .0))), q .1 .few)
 
 -- ---- why a byte offends
@@ -246,9 +250,10 @@ explained line i k h few s (Letter c) e f =
     let w : length (lettersTo line i) ≡ longest = omega arith in
     (subst (λ (x : ℕ). Cause line i x) (sym (p .1)) (tooLong l w), inl (no-letter line i h l n))
 explained line i k h few s (Mark b) e f =
-    let p = loose (afterLetter line i) (leb (length line) (i + 1)) k s f in
-    (subst (λ (x : ℕ). Cause line i x) (sym (p .0)) (looseMark (b, e))
-    , ⊎-elim (λ a. inl (no-mark line i h (b, e) a)) (λ t. let q = leb-true (length line) (i + 1) t in inr ((b, e), omega arith)) (p .1))
+    let p = loose (afterLetter line i) (leb (length line) (i + 1)) k s f in (
+      subst (λ (x : ℕ). Cause line i x) (sym (p .0)) (looseMark (b, e)),
+      ⊎-elim (λ a. inl (no-mark line i h (b, e) a)) (λ t. let q = leb-true (length line) (i + 1) t in inr ((b, e), omega arith)) (p .1),
+    )
 explained line i k h few s Other e f = (subst (λ (x : ℕ). Cause line i x) f (noLetter e), inl (no-other line i h e))
 
 explain : (line : List ℕ) (i k : ℕ) → i < length line → length (lettersTo line i) ≤ longest → 1 ≤ k → faultAt line i ≡ k → Explained line i k
@@ -296,14 +301,18 @@ fault-at : (number : ℕ) (line : List ℕ) (k c : ℕ) → FirstAt line (length
 fault-at number line k c p =
     let i = p .at in
     let x = explain line i k (p .inside) (few-clean line i (p .clean)) (p .some) (p .here) in
-    let h : i ≤ length line = omega (arith, p .inside) in
-    (i, k, record {
-      says = ap (atByte k number) (p .column);
-      inside = p .inside;
-      cause = x .0;
-      before = hopeful line i h (p .clean);
-      after = x .1;
-      refuses = refuses line i (x .1) })
+    let h : i ≤ length line = omega (arith, p .inside) in (
+      i,
+      k,
+      record {
+        says = ap (atByte k number) (p .column);
+        inside = p .inside;
+        cause = x .0;
+        before = hopeful line i h (p .clean);
+        after = x .1;
+        refuses = refuses line i (x .1);
+      },
+    )
 
 -- ---- the bits of the marks are the hyphens of the line
 
@@ -331,7 +340,7 @@ bit-above m n p h l = bit-none (m + 2 ^ n) (n + 1) p (omega (arith, pow-add 2 n 
 marks-low : (bs : List ℕ) (i : ℕ) → firstTo bs i ≡ none → faultAt bs i ≡ 0 → (h : Bool) → kindAt bs i ≡ Mark h → marksTo bs i < 2 ^ length (lettersTo bs i)
 marks-low bs i e z h k =
     let a : afterLetter bs i ≡ true =
-      ⊎-elim (λ (l : LetterAt bs i). absurd (false≢true (sym (ap isLetter k) ∙ l))) (λ m. m .1) (fine-at bs i z) in
+    ⊎-elim (λ (l : LetterAt bs i). absurd (false≢true (sym (ap isLetter k) ∙ l))) (λ m. m .1) (fine-at bs i z) in
     subst (λ (x : ℕ). marksTo bs i < 2 ^ x) (ap (λ (b : Bool). length (lettersTo bs i) + slack b) a ∙ add-zero (length (lettersTo bs i))) (sound bs i e .low)
 
 abbrev Source : List ℕ → ℕ → ℕ → Type 0
@@ -350,8 +359,8 @@ marks-step bs i p (Mark true) k low b =
     ⊎-elim
     (λ (e : p ≡ n). inr (i, omega arith, k, sym e))
     (⊎-elim
-      (λ (l : p < n). inl (sym (bit-below (marksTo bs i) n p l) ∙ b))
-      (λ (l : n < p). absurd (omega (arith, b, bit-above (marksTo bs i) n p (low true refl) l))))
+    (λ (l : p < n). inl (sym (bit-below (marksTo bs i) n p l) ∙ b))
+    (λ (l : n < p). absurd (omega (arith, b, bit-above (marksTo bs i) n p (low true refl) l))))
     (cases-order p n)
 
 marks-from : (bs : List ℕ) (i p : ℕ) → firstTo bs i ≡ none → bit (marksTo bs i) p ≡ 1 → Source bs i p
@@ -382,12 +391,12 @@ marks-into bs (suc i) j e h y =
     ⊎-elim
     (λ (l : j < i). marks-keep bs i (length (lettersTo bs j)) (kindAt bs i) (λ b k. marks-low bs i (q .0) (q .1) b k) (marks-into bs i j (q .0) l y))
     (λ (l : i ≤ j).
-      let s : j ≡ i = omega arith in
-      let k : kindAt bs i ≡ Mark true = subst (λ (x : ℕ). HyphenAt bs x) s y in
-      let n = length (lettersTo bs i) in
-      ap (λ (x : ℕ). bit (marksTo bs i + bitOf (kindAt bs i) n) (length (lettersTo bs x))) s
-      ∙ ap (λ (K : Kind). bit (marksTo bs i + bitOf K n) n) k
-      ∙ bit-own (marksTo bs i) n (marks-low bs i (q .0) (q .1) true k))
+    let s : j ≡ i = omega arith in
+    let k : kindAt bs i ≡ Mark true = subst (λ (x : ℕ). HyphenAt bs x) s y in
+    let n = length (lettersTo bs i) in
+    ap (λ (x : ℕ). bit (marksTo bs i + bitOf (kindAt bs i) n) (length (lettersTo bs x))) s
+    ∙ ap (λ (K : Kind). bit (marksTo bs i + bitOf K n) n) k
+    ∙ bit-own (marksTo bs i) n (marks-low bs i (q .0) (q .1) true k))
     (cases-lt j i)
 
 word-of : (line : List ℕ) → firstTo line (length line) ≡ none → WordOf line (lettersTo line (length line), marksTo line (length line))
@@ -396,7 +405,8 @@ word-of line e =
     record {
       letters = refl;
       from = λ p b. marks-from line (length line) p e (eqb-true (bit (marksTo line (length line)) p) 1 b);
-      into = λ i l y. eq-eqb (bit (marksTo line (length line)) (length (lettersTo line i))) 1 (marks-into line (length line) i e l y) }
+      into = λ i l y. eq-eqb (bit (marksTo line (length line)) (length (lettersTo line i))) 1 (marks-into line (length line) i e l y);
+    }
 
 word-line : (line : List ℕ) → 0 < length line → firstTo line (length line) ≡ none → WordLine line
 word-line line s e =

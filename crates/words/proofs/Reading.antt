@@ -109,12 +109,13 @@ sound-more (Letter s) after last xs m r z h =
     let le : length xs + slack after ≤ length (xs ++ s ∷ []) + 0 = omega (arith, slack-le after) in
     record {
       within = λ k l. ⊎-elim
-        (λ (p : k < length xs). rw getD-append-left (h .within k p))
-        (λ (p : length xs ≤ k). let e : length xs ≡ k = omega arith in rw (getD-push xs s 0 k e) r)
-        (cases-lt k (length xs));
+          (λ (p : k < length xs). rw getD-append-left (h .within k p))
+          (λ (p : length xs ≤ k). let e : length xs ≡ k = omega arith in rw (getD-push xs s 0 k e) r)
+          (cases-lt k (length xs));
       low = omega (arith, h .low, pow-mono le);
       even = omega (arith, h .even);
-      some = λ _. omega arith }
+      some = λ _. omega arith;
+    }
 sound-more (Mark b) true true xs m r z h = omega (arith, z)
 sound-more (Mark b) true false xs m r z h =
     let n : 1 ≤ length xs = h .some refl in
@@ -200,7 +201,8 @@ module _ (bs : List ℕ) (i : ℕ) (L : List ℕ) (n m : ℕ) (a : Bool) (at : A
         room = omega arith;
         filled = ap (λ (x : List ℕ). set x n s) (at .filled) ∙ pad-set (lettersTo bs i) n s (at .counted) h ∙ ap (λ (x : List ℕ). x ++ replicate (longest - (n + 1)) 0) (sym e);
         marked = at .marked ∙ sym (marks-more bs i ∙ ap (λ (x : Kind). marksTo bs i + bitOf x (length (lettersTo bs i))) k ∙ add-zero (marksTo bs i));
-        follows = sym (after-more bs i ∙ ap isLetter k) }
+        follows = sym (after-more bs i ∙ ap isLetter k);
+      }
 
   pub turn-mark : (h : Bool) → kindAt bs i ≡ Mark h → a ≡ true → i + 1 < length bs → (bit : ℕ) → bit ≡ cond h (2 ^ n) 0 → At bs (i + 1) L n (bitOr m bit) false
   turn-mark h k t r bit q =
@@ -212,8 +214,9 @@ module _ (bs : List ℕ) (i : ℕ) (L : List ℕ) (n m : ℕ) (a : Bool) (at : A
         room = at .room;
         filled = at .filled ∙ ap (λ (x : List ℕ). x ++ replicate (longest - n) 0) (sym e);
         marked = ap (bitOr m) q ∙ or-bit h n m l ∙ ap₂ (λ (x y : ℕ). x + cond h (2 ^ y) 0) (at .marked) (at .counted)
-          ∙ sym (marks-more bs i ∙ ap (λ (x : Kind). marksTo bs i + bitOf x (length (lettersTo bs i))) k);
-        follows = sym (after-more bs i ∙ ap isLetter k) }
+            ∙ sym (marks-more bs i ∙ ap (λ (x : Kind). marksTo bs i + bitOf x (length (lettersTo bs i))) k);
+        follows = sym (after-more bs i ∙ ap isLetter k);
+      }
 
 -- the same at equal values
 pub at-same : (bs : List ℕ) (i : ℕ) (L L′ : List ℕ) (n n′ m m′ : ℕ) (a a′ : Bool) → L′ ≡ L → n′ ≡ n → m′ ≡ m → a′ ≡ a → At bs i L n m a → At bs i L′ n′ m′ a′

@@ -5,8 +5,8 @@ ghost use Prim.Native.Nat.{_^_, _<_};
 ghost use Rattle.words.specs.Line.{kindOf, reading};
 ghost use Rattle.words.specs.Grammar.{Judged};
 ghost use Rattle.words.specs.Views.{answer};
-
-use crate::word::{Word, LONGEST};
+use crate::word::LONGEST;
+use crate::word::Word;
 
 /// What a byte of a word line is: a letter with its symbol, a mark that is a hyphen or none, or neither.
 #[derive(Clone, Copy)]
@@ -47,38 +47,43 @@ fn mark_bit(hyphen: bool, len: usize) -> u64
     if hyphen { 1 << len } else { 0 }
 }
 
-/// Reads line `number` of a list: an empty line holds no word, any other spells one or is refused at its first
-/// offending byte.
-pub fn read_line(number: usize, line: &[u8]) -> Result<Option<Word>, LineFault>
-    ensures value { λ r. ⌜ answer r ≡ reading number (now (line .entry)) ⌝ }
-    ensures meaning { λ r. ⌜ Judged number (now (line .entry)) (answer r) ⌝ }
+/// Reads the bytes of a line of a list, whose number is `line`: an empty line holds no word, any other spells one or is
+/// refused at its first offending byte.
+pub fn read_line(line: usize, bytes: &[u8]) -> Result<Option<Word>, LineFault>
+    ensures value { λ r. ⌜ answer r ≡ reading line (now (bytes .entry)) ⌝ }
+    ensures meaning { λ r. ⌜ Judged line (now (bytes .entry)) (answer r) ⌝ }
 {
-    if line.is_empty() {
+    if bytes.is_empty() {
         return Ok(None);
     }
     let mut letters = [0; LONGEST];
     let mut len = 0;
     let mut marks: u64 = 0;
     let mut after_letter = false;
-    for (i, b) in line.iter().enumerate() {
+    for (i, b) in bytes.iter().enumerate() {
+        let column = i + 1;
         match classify(*b) {
             Kind::Letter(symbol) => {
                 if len >= LONGEST {
-                    return Err(LineFault::TooLong { line: number, column: i + 1 });
+                    return Err(LineFault::TooLong { line, column });
                 }
                 letters[len] = symbol;
                 len += 1;
                 after_letter = true;
             }
             Kind::Mark(hyphen) => {
-                if !after_letter || i + 1 >= line.len() {
-                    return Err(LineFault::LooseMark { line: number, column: i + 1 });
+                if !after_letter || column >= bytes.len() {
+                    return Err(LineFault::LooseMark { line, column });
                 }
                 marks |= mark_bit(hyphen, len);
                 after_letter = false;
             }
-            Kind::Other => return Err(LineFault::NoLetter { line: number, column: i + 1 }),
+            Kind::Other => return Err(LineFault::NoLetter { line, column }),
         }
     }
-    Ok(Some(Word { len, letters, marks }))
+    Ok(Some(Word {
+        len,
+        letters,
+        marks,
+    }))
 }

@@ -4,8 +4,9 @@ ghost use Prim.Native.Nat.{_<_};
 ghost use Rattle.std.specs.Results.{Cases};
 ghost use Rattle.words.specs.Words.{InRange, positions, bitsOf, hyphensWithin};
 ghost use Rattle.words.specs.Views.{headword};
-
-use crate::word::{Bounds, Word, WIDEST};
+use crate::word::Bounds;
+use crate::word::WIDEST;
+use crate::word::Word;
 
 /// A setting or bound is out of range.
 #[derive(Clone, Copy)]

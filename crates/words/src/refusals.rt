@@ -2,7 +2,6 @@
 ghost use mathlib.Core.Path.{_≡_};
 ghost use Rattle.text.specs.Refusals.{sixOf};
 ghost use Rattle.words.specs.Faults.{lineRefused, rangeRefused};
-
 use crate::line::LineFault;
 use crate::measure::OutOfRange;
 use text::refusal::Refusal;

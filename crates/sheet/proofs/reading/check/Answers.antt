@@ -12,12 +12,12 @@ returns-in-Break-count-list c =
     let q = err-from-errBy (c .from-residual-in-Break-count-list .result) (c .from-residual-in-Break-count-list .ensures .1) in
     rw (q .1, q .2)
     (counted-err (c .args .longer) (c .args .input .now) (s .bounds .left) (s .bounds .right) (drop (s .«words_at») (c .args .input .now)) (now (c .new-list .result .lines .text))
-      (c .in-Continue-sheet .ensures tt .value) (c .new-list .ensures .list .0 ∙ take-rest (c .args .input .now) (s .«words_at»))
-      (c .in-Break-count-list .field-0 .0) (c .in-Break-count-list .ensures tt .value))
+    (c .in-Continue-sheet .ensures tt .value) (c .new-list .ensures .list .0 ∙ take-rest (c .args .input .now) (s .«words_at»))
+    (c .in-Break-count-list .field-0 .0) (c .in-Break-count-list .ensures tt .value))
 
 pub returns : need.returns
 returns c =
     let s = c .in-Continue-sheet .sheet in
     counted-ok (c .args .longer) (c .args .input .now) (s .bounds .left) (s .bounds .right) (drop (s .«words_at») (c .args .input .now)) (now (c .new-list .result .lines .text))
-      (c .in-Continue-sheet .ensures tt .value) (c .new-list .ensures .list .0 ∙ take-rest (c .args .input .now) (s .«words_at»))
-      (c .in-Continue-count-list .field-0) (c .in-Continue-count-list .ensures tt .value)
+    (c .in-Continue-sheet .ensures tt .value) (c .new-list .ensures .list .0 ∙ take-rest (c .args .input .now) (s .«words_at»))
+    (c .in-Continue-count-list .field-0) (c .in-Continue-count-list .ensures tt .value)

@@ -20,7 +20,8 @@ returns c =
     let e = c .line-end-end .ensures in
     let line = take (b - a) (drop a t) in
     let begins : Begins (drop a t) line (drop (c .if-end-text .self) t) =
-      elim (c .if-end-text .came) [
-        then-end-text w ↦ subst (λ (x : ℕ). Begins (drop a t) line (drop x t)) (sym (w .self-is)) (ends-at-feed t a b (e .bounds .0) (e .bounds .1) (e .inside) (w .if-end-text .taken) (e .at (w .if-end-text .taken)))
-      | else-end-text w ↦ subst (λ (x : ℕ). Begins (drop a t) line (drop x t)) (sym (w .self-is)) (ends-with-text t a b (e .bounds .0) (e .bounds .1) (e .inside) (c .if-start-text .left) (w .if-end-text .left)) ] in
+    elim (c .if-end-text .came) [
+      | then-end-text w ↦ subst (λ (x : ℕ). Begins (drop a t) line (drop x t)) (sym (w .self-is)) (ends-at-feed t a b (e .bounds .0) (e .bounds .1) (e .inside) (w .if-end-text .taken) (e .at (w .if-end-text .taken)))
+      | else-end-text w ↦ subst (λ (x : ℕ). Begins (drop a t) line (drop x t)) (sym (w .self-is)) (ends-with-text t a b (e .bounds .0) (e .bounds .1) (e .inside) (c .if-start-text .left) (w .if-end-text .left))
+    ] in
     record { text = refl; next = (begins, begins-lines (drop a t) line (drop (c .if-end-text .self) t) begins, refl) }

@@ -18,8 +18,9 @@ returns c =
     let r = c .args .bounds .right in
     let k = suc (w .len - r) - l in
     let e : ones (bitAnd (w .marks) (c .mask .result)) ≡ count (hyphen (headword w)) (positions l r (w .len)) =
-      ap (λ (x : ℕ). ones (bitAnd (w .marks) x)) (c .mask .ensures) ∙ ones-mask (headword w) k l in
+    ap (λ (x : ℕ). ones (bitAnd (w .marks) x)) (c .mask .ensures) ∙ ones-mask (headword w) k l in
     let n : length (take (w .len) (w .letters)) ≡ w .len = length-take-le (w .len) (w .letters) (omega (arith, w .full, w .sized .1)) in
     record {
       few = omega (arith, e, count-le (hyphen (headword w)) k l, w .sized .0, c .args .bounds .ranged);
-      value = e ∙ ap (λ (x : ℕ). count (hyphen (headword w)) (positions l r x)) (sym n) }
+      value = e ∙ ap (λ (x : ℕ). count (hyphen (headword w)) (positions l r x)) (sym n);
+    }
