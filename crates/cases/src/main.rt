@@ -6,6 +6,7 @@ use sheet::writing::run;
 use std::error::AnyError;
 use std::io::Read;
 use std::io::Write;
+use text::cursor::Lines;
 
 /// More than any line of the output has.
 const LINE: usize = 192;
@@ -23,29 +24,16 @@ fn next_case(text: &[u8], from: usize) -> usize
     text.len()
 }
 
-// Where the line that begins at `from` ends.
-fn title_end(text: &[u8], from: usize) -> usize
-    requires { ⌜ from ≤ length (now text) ⌝ }
-    ensures { λ r. ⌜ (from ≤ r) × (r ≤ length (now (text .entry))) ⌝ }
-{
-    for i in from..text.len() {
-        if text[i] == b'\n' {
-            return i;
-        }
-    }
-    text.len()
-}
-
 // Writes the first line of a case and what the run on the rest answers.
 fn show(rt: &LibcRuntime, case: &[u8]) -> Result<(), AnyError> {
-    let title = title_end(case, 0);
-    let body = if title < case.len() { title + 1 } else { title };
+    let mut lines = Lines::new(case);
+    let title = lines.next_line().unwrap_or(b"");
     let mut line = [0; LINE];
-    let Ok(n) = run(&case[body..], false, &mut line) else {
+    let Ok(n) = run(&case[lines.pos..], false, &mut line) else {
         return Err("the line is longer than its memory".into());
     };
     let mut stdout = rt.stdout();
-    stdout.write_all(&case[0..title])?;
+    stdout.write_all(title)?;
     stdout.write_all(b"\n")?;
     stdout.write_all(&line[0..n])?;
     stdout.write_all(b"\n")?;
