@@ -1,0 +1,5 @@
+mod Spells
+mod Bytes
+mod Round
+mod Judging
+mod Ordered
