@@ -2,14 +2,12 @@
 //! front of the next such line, or with the input. Every case is answered by its first line and the run's line.
 ghost use Prim.Native.Nat.{_≤_};
 ghost use lib.ListN.{length};
+use sheet::writing::LINE;
 use sheet::writing::run;
 use std::error::AnyError;
 use std::io::Read;
 use std::io::Write;
 use text::cursor::Lines;
-
-/// More than any line of the output has.
-const LINE: usize = 192;
 
 // Where the next case begins, from `from` on: at a `=` behind a line feed, or else at the end of the text.
 fn next_case(text: &[u8], from: usize) -> usize

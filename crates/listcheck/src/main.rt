@@ -2,6 +2,7 @@
 use lists::counting::count_list;
 use lists::textlist::TextList;
 use lists::texts::TextWords;
+use sheet::writing::LINE;
 use sheet::writing::write_counts;
 use sheet::writing::write_refusal;
 use std::env;
@@ -10,9 +11,6 @@ use std::fs;
 use std::io::Write;
 use text::figures::read_figures;
 use words::word::Bounds;
-
-/// More than any line of the output has.
-const LINE: usize = 192;
 
 // The bounds that an argument names.
 fn bounds(argument: &str) -> Result<Bounds, AnyError> {

@@ -3,14 +3,12 @@ ghost use Prim.Native.Nat.{_≤_};
 ghost use lib.ListN.{length};
 ghost use Rattle.std.specs.Vec.{made};
 use sheet::reading::LARGEST;
+use sheet::writing::LINE;
 use sheet::writing::run;
 use std::error::AnyError;
 use std::io;
 use std::io::Read;
 use std::io::Write;
-
-/// More than any line of the program's output has.
-const LINE: usize = 192;
 
 // Fills the buffer from its front, and answers how many bytes came.
 fn fill<R: Read>(from: &mut R, buffer: &mut [u8]) -> io::Result<usize>

@@ -79,7 +79,7 @@ abbrev above : ℕ → Bool
 above zero = false
 above (suc v) = true
 
-piece-digit : (d : ℕ) → suc d ≤ 9 → pieceOf (48 + suc d) ≡ Digit (suc d)
+piece-digit : (d : ℕ) → suc d ≤ highest → pieceOf (48 + suc d) ≡ Digit (suc d)
 piece-digit d h =
     let b = 48 + suc d in
     let z : b - 48 ≡ suc d = omega arith in
@@ -98,22 +98,22 @@ piece-symbol (suc s) h =
 
 -- the values up to place k
 upTo : List ℕ → ℕ → List ℕ
-upTo vs zero = set (replicate 16 0) 0 (getD vs 0 0)
+upTo vs zero = set (replicate places 0) 0 (getD vs 0 0)
 upTo vs (suc k) = set (upTo vs k) (suc k) (getD vs (suc k) 0)
 
-up-length : (vs : List ℕ) (k : ℕ) → length (upTo vs k) ≡ 16
+up-length : (vs : List ℕ) (k : ℕ) → length (upTo vs k) ≡ places
 unfolding upTo
-up-length vs zero = length-set (replicate 16 0) 0 (getD vs 0 0)
+up-length vs zero = length-set (replicate places 0) 0 (getD vs 0 0)
 up-length vs (suc k) = length-set (upTo vs k) (suc k) (getD vs (suc k) 0) ∙ up-length vs k
 
 up-past : (vs : List ℕ) (k j : ℕ) → k < j → getD (upTo vs k) j 0 ≡ 0
 unfolding upTo
-up-past vs zero j h = let ne : j ≢ 0 = omega arith in getD-set-other (replicate 16 0) 0 j (getD vs 0 0) 0 ne ∙ zeros 16 j
+up-past vs zero j h = let ne : j ≢ 0 = omega arith in getD-set-other (replicate places 0) 0 j (getD vs 0 0) 0 ne ∙ zeros places j
 up-past vs (suc k) j h = let ne : j ≢ suc k = omega arith in getD-set-other (upTo vs k) (suc k) j (getD vs (suc k) 0) 0 ne ∙ up-past vs k j (omega arith)
 
-up-at : (vs : List ℕ) (k j : ℕ) → k < 16 → j ≤ k → getD (upTo vs k) j 0 ≡ getD vs j 0
+up-at : (vs : List ℕ) (k j : ℕ) → k < places → j ≤ k → getD (upTo vs k) j 0 ≡ getD vs j 0
 unfolding upTo
-up-at vs zero j l h = let e : j ≡ 0 = omega arith in rw (e, getD-set-same (replicate 16 0) 0 (getD vs 0 0) 0 (lit< tt))
+up-at vs zero j l h = let e : j ≡ 0 = omega arith in rw (e, getD-set-same (replicate places 0) 0 (getD vs 0 0) 0 (lit< tt))
 up-at vs (suc k) j l h =
     ⊎-elim
     (λ (e : j ≡ suc k). let q : suc k < length (upTo vs k) = omega (arith, up-length vs k) in rw (e, getD-set-same (upTo vs k) (suc k) (getD vs (suc k) 0) 0 q))
@@ -124,7 +124,7 @@ front-at : (t : List ℕ) (i i′ : ℕ) (ss ss′ vs vs′ : List ℕ) (a : Boo
 front-at t i i′ ss ss′ vs vs′ a e f g h = subst₃ (λ (x : ℕ) (y z : List ℕ). Front t x y z a) e f g h
 
 -- a digit, or none
-front-digit : (xs rest ss vs : List ℕ) (v : ℕ) → v ≤ 9 → getD vs (length ss) 0 ≡ 0 → Front (xs ++ (digit v ++ rest)) (length xs) ss vs false → Front (xs ++ (digit v ++ rest)) (length xs + length (digit v)) ss (set vs (length ss) v) (above v)
+front-digit : (xs rest ss vs : List ℕ) (v : ℕ) → v ≤ highest → getD vs (length ss) 0 ≡ 0 → Front (xs ++ (digit v ++ rest)) (length xs) ss vs false → Front (xs ++ (digit v ++ rest)) (length xs + length (digit v)) ss (set vs (length ss) v) (above v)
 front-digit xs rest ss vs zero h z s =
     front-at _ _ _ _ _ _ _ _ (sym (add-zero (length xs))) refl (sym (set-getD vs (length ss) 0) ∙ ap (set vs (length ss)) z) s
 front-digit xs rest ss vs (suc d) h z s =
@@ -142,7 +142,7 @@ module _ (w : Spelled) (v : Valid w) where
   open-at k h =
       let l : length (take k (w .0)) ≡ k = length-take-le k (w .0) (omega arith) in
       ap (shut (take k (w .0))) l
-      ∙ or-from (leb 15 k) (ltb 1 k && eqb (getD (take k (w .0)) (k - 1) 0) 0) (lt-leb 15 k (omega (arith, v .few)))
+      ∙ or-from (leb longest k) (ltb 1 k && eqb (getD (take k (w .0)) (k - 1) 0) 0) (lt-leb longest k (omega (arith, v .few)))
       (⊎-elim
       (λ (g : 1 < k).
       let e : getD (take k (w .0)) (k - 1) 0 ≡ getD (w .0) (k - 1) 0 = getD-take k (w .0) (k - 1) 0 (omega arith) in
@@ -155,7 +155,7 @@ module _ (w : Spelled) (v : Valid w) where
   go zero h rest =
       let x = getD (w .1) 0 0 in
       front-at (digit x ++ rest) _ _ [] [] _ _ (above x) (zero-add (length (digit x))) refl refl
-      (front-digit [] rest [] (replicate 16 0) x (v .digits 0) refl (front-none (digit x ++ rest)))
+      (front-digit [] rest [] (replicate places 0) x (v .digits 0) refl (front-none (digit x ++ rest)))
   go (suc k) h rest =
       let T = textTo (w .0) (w .1) k in
       let s = getD (w .0) k 0 in
@@ -213,7 +213,7 @@ unfolding textTo
 text-short ss vs zero = digit-le (getD vs 0 0)
 text-short ss vs (suc k) = omega (arith, text-short ss vs k, length-append (textTo ss vs k) (byteOf (getD ss k 0) ∷ digit (getD vs (suc k) 0)), digit-le (getD vs (suc k) 0))
 
-pub valid-of : (p : Pattern) → length (p .spelling .symbols) ≡ 15 → length (p .row .values) ≡ 16 → Valid (spelled p)
+pub valid-of : (p : Pattern) → length (p .spelling .symbols) ≡ longest → length (p .row .values) ≡ places → Valid (spelled p)
 valid-of p e f =
     let n = p .spelling .len in
     let S = p .spelling .symbols in

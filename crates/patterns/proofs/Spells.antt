@@ -51,7 +51,7 @@ pub record Front (t : List ℕ) (i : ℕ) (ss vs : List ℕ) (a : Bool) : Type 0
   pub values : valuesTo t i ≡ vs
   pub after : afterDigit t i ≡ a
 
-pub front-none : (t : List ℕ) → Front t 0 [] (replicate 16 0) false
+pub front-none : (t : List ℕ) → Front t 0 [] (replicate places 0) false
 unfolding firstTo symbolsTo valuesTo afterDigit
 front-none t = record { good = refl; symbols = refl; values = refl; after = refl }
 
@@ -92,7 +92,7 @@ refused-at t i k ss vs a s e z h =
 
 abbrev pub Bytes : Piece → ℕ → Type 0
 Bytes (Symbol s) b = (byteOf s ≡ b) × (s ≤ alphabet)
-Bytes (Digit d) b = (digit d ≡ b ∷ []) × (d ≤ 9)
+Bytes (Digit d) b = (digit d ≡ b ∷ []) × (d ≤ highest)
 Bytes Other b = Unit {0}
 
 small : (b : ℕ) → 97 ≤ b → b ≤ 122 → byteOf (b - 96) ≡ b
@@ -110,16 +110,16 @@ bytes b =
 -- ---- what a front without fault spells is sound
 
 pub record Sound (ss vs : List ℕ) (a : Bool) : Type 0 where
-  pub few : length ss ≤ 15
+  pub few : length ss ≤ longest
   pub symbolic : (k : ℕ) → getD ss k 0 ≤ alphabet
   pub edged : (k : ℕ) → 0 < k → suc k < length ss → 0 < getD ss k 0
-  pub width : length vs ≡ 16
-  pub digits : (k : ℕ) → getD vs k 0 ≤ 9
+  pub width : length vs ≡ places
+  pub digits : (k : ℕ) → getD vs k 0 ≤ highest
   pub within : (k : ℕ) → length ss < k → getD vs k 0 ≡ 0
   pub here : a ≡ false → getD vs (length ss) 0 ≡ 0
 
-sound-none : Sound [] (replicate 16 0) false
-sound-none = record { few = omega arith; symbolic = λ k. omega arith; edged = λ k p q. omega arith; width = refl; digits = λ k. omega (arith, zeros 16 k); within = λ k h. zeros 16 k; here = λ _. refl }
+sound-none : Sound [] (replicate places 0) false
+sound-none = record { few = omega arith; symbolic = λ k. omega arith; edged = λ k p q. omega arith; width = refl; digits = λ k. omega (arith, zeros places k); within = λ k h. zeros places k; here = λ _. refl }
 
 push-symbolic : (ss : List ℕ) (s k : ℕ) → s ≤ alphabet → ((j : ℕ) → getD ss j 0 ≤ alphabet) → getD (ss ++ s ∷ []) k 0 ≤ alphabet
 push-symbolic [] s zero h f = h
@@ -129,8 +129,8 @@ push-symbolic (x ∷ ss) s (suc k) h f = push-symbolic ss s k h (λ j. f (suc j)
 
 sound-more : (k : Piece) (b : ℕ) (ss vs : List ℕ) (a : Bool) → Bytes k b → offends k a ss ≡ false → Sound ss vs a → Sound (ss ++ symbolIn k) (withValue k (length ss) vs) (isDigit k)
 sound-more (Symbol s) b ss vs a y z h =
-    let p = or-parts (leb 15 (length ss)) (ltb 1 (length ss) && eqb (getD ss (length ss - 1) 0) 0) z in
-    let l : length ss < 15 = leb-false 15 (length ss) (p .0) in
+    let p = or-parts (leb longest (length ss)) (ltb 1 (length ss) && eqb (getD ss (length ss - 1) 0) 0) z in
+    let l : length ss < longest = leb-false longest (length ss) (p .0) in
     let n : length (ss ++ s ∷ []) ≡ length ss + 1 = length-push ss s in
     record {
       few = omega arith;
@@ -202,10 +202,10 @@ abbrev pub At : List ℕ → ℕ → List ℕ → List ℕ → ℕ → Bool → 
 At t i symbols values len after =
     Front t i (symbolsTo t i) values after
     × (len ≡ length (symbolsTo t i))
-    × (len ≤ 15)
-    × (symbols ≡ symbolsTo t i ++ replicate (15 - len) 0)
-    × (length symbols ≡ 15)
-    × (length values ≡ 16)
+    × (len ≤ longest)
+    × (symbols ≡ symbolsTo t i ++ replicate (longest - len) 0)
+    × (length symbols ≡ longest)
+    × (length values ≡ places)
 
 pub at-same : (t : List ℕ) (i : ℕ) (S S′ V V′ : List ℕ) (n n′ : ℕ) (a a′ : Bool) → S′ ≡ S → V′ ≡ V → n′ ≡ n → a′ ≡ a → At t i S V n a → At t i S′ V′ n′ a′
 at-same t i S S′ V V′ n n′ a a′ e f g h x =
@@ -216,19 +216,19 @@ module _ (t : List ℕ) (i : ℕ) (S V : List ℕ) (n : ℕ) (a : Bool) (at : At
   at-sound = subst₂ (λ (x : List ℕ) (b : Bool). Sound (symbolsTo t i) x b) (at .0 .values) (at .0 .after) (sound t i (at .0 .good))
 
   pub at-symbol : (k : ℕ) → getD S k 0 ≡ getD (symbolsTo t i) k 0
-  at-symbol k = ap (λ (x : List ℕ). getD x k 0) (at .3) ∙ pad-at-symbol (symbolsTo t i) (15 - n) k
+  at-symbol k = ap (λ (x : List ℕ). getD x k 0) (at .3) ∙ pad-at-symbol (symbolsTo t i) (longest - n) k
 
   pub shut-is : (s : ℕ) → shut S n ≡ offends (Symbol s) a (symbolsTo t i)
-  shut-is s = ap (λ (x : ℕ). leb 15 n || (ltb 1 n && eqb x 0)) (at-symbol (n - 1)) ∙ ap (shut (symbolsTo t i)) (at .1)
+  shut-is s = ap (λ (x : ℕ). leb longest n || (ltb 1 n && eqb x 0)) (at-symbol (n - 1)) ∙ ap (shut (symbolsTo t i)) (at .1)
 
   pub turn-symbol : (s : ℕ) → pieceAt t i ≡ Symbol s → shut S n ≡ false → At t (i + 1) (set S n s) V (n + 1) false
   turn-symbol s k z =
       let st = front-more t i (Symbol s) (symbolsTo t i) V a (at .0) k (sym (shut-is s) ∙ z) in
-      let l : n < 15 = leb-false 15 n (or-parts (leb 15 n) _ z .0) in (
+      let l : n < longest = leb-false longest n (or-parts (leb longest n) _ z .0) in (
         record { good = st .good; symbols = refl; values = st .values; after = st .after },
         ap (λ (x : ℕ). x + 1) (at .1) ∙ sym (length-push (symbolsTo t i) s) ∙ ap length (sym (st .symbols)),
         omega arith,
-        ap (λ (x : List ℕ). set x n s) (at .3) ∙ pad-set 15 (symbolsTo t i) n s (at .1) l ∙ ap (λ (x : List ℕ). x ++ replicate (15 - (n + 1)) 0) (sym (st .symbols)),
+        ap (λ (x : List ℕ). set x n s) (at .3) ∙ pad-set longest (symbolsTo t i) n s (at .1) l ∙ ap (λ (x : List ℕ). x ++ replicate (longest - (n + 1)) 0) (sym (st .symbols)),
         length-set S n s ∙ at .4,
         at .5,
       )
@@ -240,13 +240,13 @@ module _ (t : List ℕ) (i : ℕ) (S V : List ℕ) (n : ℕ) (a : Bool) (at : At
         record { good = st .good; symbols = refl; values = st .values ∙ ap (λ (x : ℕ). set V x d) (sym (at .1)); after = st .after },
         at .1 ∙ ap length (sym e),
         at .2,
-        at .3 ∙ ap (λ (x : List ℕ). x ++ replicate (15 - n) 0) (sym e),
+        at .3 ∙ ap (λ (x : List ℕ). x ++ replicate (longest - n) 0) (sym e),
         at .4,
         length-set V n d ∙ at .5,
       )
 
   pub any-is : anyAbove S ≡ anyAbove (symbolsTo t i)
-  any-is = ap anyAbove (at .3) ∙ any-pad (symbolsTo t i) (15 - n)
+  any-is = ap anyAbove (at .3) ∙ any-pad (symbolsTo t i) (longest - n)
 
   -- at the end
   pub end-lacks : i ≡ length t → (anyAbove S && anyAbove V) ≡ false → refused (atByte 14 1 (length t + 1)) ≡ reading t
@@ -263,7 +263,7 @@ module _ (t : List ℕ) (i : ℕ) (S V : List ℕ) (n : ℕ) (a : Bool) (at : At
       let m = length t in
       let f : orElse (firstTo t m) (lacking (symbolsTo t m) (valuesTo t m) m) ≡ 0 =
       ap₂ (λ (x : ℕ) (y : Bool). orElse x (cond y 0 (m + 1))) (ap (firstTo t) (sym e) ∙ at .0 .good) (ap₂ (λ (x y : Bool). x && y) (ap (λ (j : ℕ). anyAbove (symbolsTo t j)) (sym e) ∙ sym any-is) (ap (λ (j : ℕ). anyAbove (valuesTo t j)) (sym e) ∙ ap anyAbove (at .0 .values)) ∙ z) in
-      let g : take n S ≡ symbolsTo t m = ap (take n) (at .3) ∙ take-at (symbolsTo t i) (replicate (15 - n) 0) n (sym (at .1)) ∙ ap (symbolsTo t) e in
+      let g : take n S ≡ symbolsTo t m = ap (take n) (at .3) ∙ take-at (symbolsTo t i) (replicate (longest - n) 0) n (sym (at .1)) ∙ ap (symbolsTo t) e in
       let h : V ≡ valuesTo t m = sym (at .0 .values) ∙ ap (valuesTo t) e in
       ap₂ (λ (x y : List ℕ). spells ((x, y))) g h
       ∙ sym (ap (λ (x : ℕ). readingBy x ((symbolsTo t m, valuesTo t m))) f)

@@ -9,6 +9,9 @@ use text::memory::Short;
 use text::memory::write_line;
 use text::refusal::Refusal;
 
+/// Text memory that is longer than any line written here.
+pub const LINE: usize = 192;
+
 /// Writes `words,hyphens`.
 pub fn write_counts(counts: ListCounts, memory: &mut [u8]) -> Result<usize, Short>
     ensures { λ r. ⌜ Wrote (countsLine (counts .words) (counts .hyphens)) (now (memory .entry)) r (now (memory .exit)) ⌝ }
