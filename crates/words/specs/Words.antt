@@ -34,7 +34,7 @@ hyphen w i = eqb (bit (w .1) i) 1
 abbrev pub InRange : ℕ → ℕ → Type 0
 InRange left right = (1 ≤ left) × (left ≤ widest) × (1 ≤ right) × (right ≤ widest)
 
--- the positions within bounds of a word of n letters
+-- the positions within bounds of a word of n letters: left to n - right, and none where n is below left + right
 abbrev pub positions : ℕ → ℕ → ℕ → List ℕ
 positions left right n = span left (n - right)
 
