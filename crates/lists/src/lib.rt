@@ -1,6 +1,8 @@
-//! Word lists: what a list of words means, the list over the bytes of a text, and what a list counts.
+//! Word lists: what a list of words means, the lists over the bytes of a text and over rows, and what a list counts.
 pub mod counting;
 pub mod fault;
 pub mod list;
+pub mod rowlist;
+pub mod rows;
 pub mod textlist;
 pub mod texts;
