@@ -1,3 +1,4 @@
 mod Steps
 mod Whole
-mod Rowing
+mod RowSteps
+mod RowWhole

@@ -1,6 +1,6 @@
 use mathlib.Core.Path.{sym}
 use Rattle.words.specs.Views.{headword}
-use Rattle.lists.proofs.Rowing.{no-row, full-row, good-row, bad-row}
+use Rattle.lists.proofs.RowSteps.{no-row, full-row, good-row, bad-row}
 use Rattle.lists.proofs.rows.word_at.Needs as need
 
 pub returns-then-read-rows : need.returns-then-read-rows

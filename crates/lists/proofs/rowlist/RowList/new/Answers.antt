@@ -1,5 +1,5 @@
 use mathlib.Core.Path.{refl}
-use Rattle.lists.proofs.Rowing.{rows-listed}
+use Rattle.lists.proofs.RowWhole.{rows-listed}
 use Rattle.lists.proofs.rowlist.RowList.new.Needs as need
 
 pub returns : need.returns
