@@ -1,2 +1,4 @@
 mod Steps
 mod Whole
+mod RowSteps
+mod RowWhole

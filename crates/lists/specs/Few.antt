@@ -1,4 +1,4 @@
--- A text never gives more than a million words.
+-- Neither a text nor rows ever give more than a million words.
 use mathlib.Core.Path.{_≡_, refl}
 use mathlib.Core.Bool.{Bool, true, false, cond}
 use mathlib.Core.List.{List, [], _∷_}
@@ -7,10 +7,14 @@ use native.Mathlib.Omega.{arith}
 use borrow.Author.Tests.{leb-false}
 use lib.Dec.{leb}
 use lib.ListN.{length}
+use Rattle.std.proofs.shelf.Tests.{cond-both}
+use Rattle.words.specs.declared.row.WordRow.{WordRow}
+use Rattle.words.specs.Rows.{rowOk}
 use Rattle.words.specs.Line.{Reading, blank, spells, refused, reading}
 use Rattle.text.specs.Lines.{linesOf}
 use Rattle.lists.specs.Listing.{fullest, stops, Content}
 use Rattle.lists.specs.Texts.{overfull, contentBy, contentFrom, textWords}
+use Rattle.lists.specs.Rows.{rowBy, rowsFrom, rowWords}
 
 few-cond : (b : Bool) (n c : ℕ) (y : Content) → c ≤ fullest → (b ≡ false → c + length (y .0) ≤ fullest) → c + length (cond b (overfull n) y .0) ≤ fullest
 few-cond true n c y h f = omega arith
@@ -29,3 +33,13 @@ few-from (l ∷ ls) n c h =
 
 pub text-few : (text : List ℕ) → length (textWords text) ≤ fullest
 text-few text = omega (arith, few-from (linesOf text) 1 0 (omega arith))
+
+few-rows : (rows : List WordRow) (c : ℕ) → c ≤ fullest → c + length (rowsFrom c rows .0) ≤ fullest
+unfolding rowsFrom
+few-rows [] c h = omega arith
+few-rows (row ∷ rows) c h =
+    few-cond (leb fullest c) (suc c) c (rowBy row c (rowsFrom (suc c) rows)) h (λ e. let p = few-rows rows (suc c) (leb-false fullest c e) in
+    cond-both (rowOk row) _ _ (λ (y : Content). c + length (y .0) ≤ fullest) (λ _. omega arith) (λ _. omega arith))
+
+pub row-few : (rows : List WordRow) → length (rowWords rows) ≤ fullest
+row-few rows = omega (arith, few-rows rows 0 (omega arith))

@@ -11,8 +11,10 @@ use words::line::LineFault;
 pub enum ListFault {
     /// A word line that is refused.
     Line(LineFault),
-    /// A line that is not empty, after as many words as a list may have.
+    /// A line that is not empty, or a row, after as many words as a list may have.
     TooMany { line: usize },
+    /// A row that makes no word.
+    BadRow { row: usize },
 }
 
 pub impl From<LineFault> for ListFault as LineInList {
@@ -30,6 +32,7 @@ impl ListFault {
         match self {
             ListFault::Line(fault) => fault.refusal(),
             ListFault::TooMany { line } => Refusal::at_byte(9, line, 1),
+            ListFault::BadRow { row } => Refusal::at_byte(10, row, 0),
         }
     }
 }

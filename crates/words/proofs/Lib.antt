@@ -1,3 +1,4 @@
 mod Bits
 mod Reading
 mod Judging
+pub mod Rowing

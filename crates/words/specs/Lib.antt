@@ -4,3 +4,4 @@ pub mod Faults
 pub mod Line
 pub mod Grammar
 pub mod Views
+pub mod Rows

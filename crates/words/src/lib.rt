@@ -2,4 +2,5 @@
 pub mod line;
 pub mod measure;
 pub mod refusals;
+pub mod row;
 pub mod word;

@@ -4,6 +4,9 @@ ghost use Prim.Native.Nat.{ℕ, _%_, _^_, _<_, _≤_};
 ghost use lib.ListN.{length, getD};
 ghost use Rattle.words.specs.Words.{alphabet, longest, widest};
 
+/// The last symbol of a letter, that of z.
+pub const ALPHABET: u8 = 26;
+
 /// The most letters that a word may have.
 pub const LONGEST: usize = 48;
 
