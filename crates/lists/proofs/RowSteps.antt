@@ -12,9 +12,8 @@ use Rattle.text.specs.Refusals.{atLine}
 use Rattle.words.specs.declared.row.WordRow.{WordRow}
 use Rattle.words.specs.Words.{Headword}
 use Rattle.words.specs.Rows.{rowHeadword, rowOk}
-use Rattle.lists.specs.Listing.{fullest, clean, stops, Content}
-use Rattle.lists.specs.Texts.{overfull}
-use Rattle.lists.specs.Rows.{rowsFrom, noRow}
+use Rattle.lists.specs.Listing.{fullest, clean, stops, Content, overfull}
+use Rattle.lists.specs.Rows.{rowBy, rowsFrom, noRow}
 
 pub no-row : (rows : List WordRow) (c : ℕ) → length rows ≤ c → rowsFrom c (drop c rows) ≡ ([], clean)
 unfolding rowsFrom
@@ -27,12 +26,11 @@ module _ (rows : List WordRow) (c : ℕ) (inside : c < length rows) where
   abbrev behind : Content
   behind = rowsFrom (c + 1) (drop (c + 1) rows)
 
-  by-row : rowsFrom c (drop c rows) ≡ cond (leb fullest c) (overfull (c + 1)) (cond (rowOk row) (rowHeadword row ∷ behind .0, behind .1) ([], stops (atLine 10 (c + 1))))
+  by-row : rowsFrom c (drop c rows) ≡ cond (leb fullest c) (overfull (c + 1)) (rowBy row (c + 1) behind)
   unfolding rowsFrom
   by-row =
       at-drop-more (rowsFrom c) rows c noRow inside
-      ∙ ap (λ (n : ℕ). let more = rowsFrom n (drop (c + 1) rows) in
-      cond (leb fullest c) (overfull n) (cond (rowOk row) (rowHeadword row ∷ more .0, more .1) ([], stops (atLine 10 n)))) (sym (add-one c))
+      ∙ ap (λ (n : ℕ). cond (leb fullest c) (overfull n) (rowBy row n (rowsFrom n (drop (c + 1) rows)))) (sym (add-one c))
 
   pub full-row : fullest ≤ c → rowsFrom c (drop c rows) ≡ overfull (c + 1)
   full-row h = by-row ∙ cond-true (leb fullest c) _ _ (le-leb fullest c h)

@@ -14,8 +14,7 @@ use Rattle.words.specs.declared.row.WordRow.{WordRow}
 use Rattle.words.specs.Words.{Headword}
 use Rattle.words.specs.Rows.{MakesWord, rowHeadword, rowOk}
 use Rattle.words.proofs.Rowing.{makes-word, makes-none}
-use Rattle.lists.specs.Listing.{fullest, Ending, stops, Content}
-use Rattle.lists.specs.Texts.{overfull}
+use Rattle.lists.specs.Listing.{fullest, Ending, stops, Content, overfull}
 use Rattle.lists.specs.Rows.{rowBy, rowsFrom, rowContent, noRow, RowsEnd, RowsListed}
 
 -- ---- a row that is passed
@@ -66,7 +65,7 @@ rows-stop c row rows r w =
     }
 
 rows-by : (c : ℕ) (row : WordRow) (rows : List WordRow) (more : Content) → c ≤ fullest → (c < fullest → RowsListed (suc c) rows more) →
-    RowsListed c (row ∷ rows) (cond (leb fullest c) (overfull (suc c)) (rowBy row c more))
+    RowsListed c (row ∷ rows) (cond (leb fullest c) (overfull (suc c)) (rowBy row (suc c) more))
 rows-by c row rows more few f =
     let P : Content → Type 0 = RowsListed c (row ∷ rows) in
     cond-both (leb fullest c) _ _ P

@@ -27,8 +27,8 @@ use Rattle.text.specs.declared.cursor.Lines.{Lines}
 use Rattle.text.specs.Lines.{linesOf}
 use Rattle.text.specs.Cursor.{unread, NextLine}
 use Rattle.lists.specs.declared.fault.ListFault.{ListFault}
-use Rattle.lists.specs.Listing.{fullest, Ending, clean, stops, Content}
-use Rattle.lists.specs.Texts.{overfull, contentBy, contentFrom}
+use Rattle.lists.specs.Listing.{fullest, Ending, clean, stops, Content, overfull}
+use Rattle.lists.specs.Texts.{contentBy, contentFrom}
 use Rattle.lists.specs.Calls.{Gives}
 
 -- ---- just the empty line is blank

@@ -14,8 +14,8 @@ use Rattle.text.specs.Refusals.{Refused, atByte}
 use Rattle.words.specs.Words.{Headword}
 use Rattle.words.specs.Line.{Reading, blank, spells, refused, reading}
 use Rattle.text.specs.Lines.{linesOf}
-use Rattle.lists.specs.Listing.{fullest, Ending, clean, stops, Content}
-use Rattle.lists.specs.Texts.{overfull, contentBy, contentFrom, textContent, wordIn, spelledBy, Passes, EndsThere, Listed}
+use Rattle.lists.specs.Listing.{fullest, Ending, clean, stops, Content, overfull}
+use Rattle.lists.specs.Texts.{contentBy, contentFrom, textContent, wordIn, spelledBy, Passes, EndsThere, Listed}
 use Rattle.lists.proofs.Steps.{some-bytes, spells-not, refused-not}
 
 -- ---- a line that is passed

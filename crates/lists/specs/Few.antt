@@ -12,8 +12,8 @@ use Rattle.words.specs.declared.row.WordRow.{WordRow}
 use Rattle.words.specs.Rows.{rowOk}
 use Rattle.words.specs.Line.{Reading, blank, spells, refused, reading}
 use Rattle.text.specs.Lines.{linesOf}
-use Rattle.lists.specs.Listing.{fullest, stops, Content}
-use Rattle.lists.specs.Texts.{overfull, contentBy, contentFrom, textWords}
+use Rattle.lists.specs.Listing.{fullest, stops, Content, overfull}
+use Rattle.lists.specs.Texts.{contentBy, contentFrom, textWords}
 use Rattle.lists.specs.Rows.{rowBy, rowsFrom, rowWords}
 
 few-cond : (b : Bool) (n c : ℕ) (y : Content) → c ≤ fullest → (b ≡ false → c + length (y .0) ≤ fullest) → c + length (cond b (overfull n) y .0) ≤ fullest
@@ -38,7 +38,7 @@ few-rows : (rows : List WordRow) (c : ℕ) → c ≤ fullest → c + length (row
 unfolding rowsFrom
 few-rows [] c h = omega arith
 few-rows (row ∷ rows) c h =
-    few-cond (leb fullest c) (suc c) c (rowBy row c (rowsFrom (suc c) rows)) h (λ e. let p = few-rows rows (suc c) (leb-false fullest c e) in
+    few-cond (leb fullest c) (suc c) c (rowBy row (suc c) (rowsFrom (suc c) rows)) h (λ e. let p = few-rows rows (suc c) (leb-false fullest c e) in
     cond-both (rowOk row) _ _ (λ (y : Content). c + length (y .0) ≤ fullest) (λ _. omega arith) (λ _. omega arith))
 
 pub row-few : (rows : List WordRow) → length (rowWords rows) ≤ fullest

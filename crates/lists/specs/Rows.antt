@@ -10,17 +10,16 @@ use Rattle.text.specs.Refusals.{atLine, atByte}
 use Rattle.words.specs.declared.row.WordRow.{WordRow}
 use Rattle.words.specs.Words.{Headword}
 use Rattle.words.specs.Rows.{MakesWord, rowHeadword, rowOk}
-use Rattle.lists.specs.Listing.{fullest, Ending, clean, stops, Content}
-use Rattle.lists.specs.Texts.{overfull}
+use Rattle.lists.specs.Listing.{fullest, Ending, clean, stops, Content, overfull}
 
--- what a row adds, where c words came before it: its word, or the ending
+-- what row n adds: its word in front of what follows, or the ending
 abbrev pub rowBy : WordRow → ℕ → Content → Content
-rowBy row c more = cond (rowOk row) (rowHeadword row ∷ more .0, more .1) ([], stops (atLine 10 (suc c)))
+rowBy row n more = cond (rowOk row) (rowHeadword row ∷ more .0, more .1) ([], stops (atLine 10 n))
 
--- what rows come to, where c words came before them: one for each row, so that the first of them is row c + 1
+-- what rows come to, where c words came before them, one for each row: the first of them is row c + 1
 unfoldable pub rowsFrom : ℕ → List WordRow → Content
 rowsFrom c [] = ([], clean)
-rowsFrom c (row ∷ rows) = cond (leb fullest c) (overfull (suc c)) (rowBy row c (rowsFrom (suc c) rows))
+rowsFrom c (row ∷ rows) = cond (leb fullest c) (overfull (suc c)) (rowBy row (suc c) (rowsFrom (suc c) rows))
 
 abbrev pub rowContent : List WordRow → Content
 rowContent rows = rowsFrom 0 rows
@@ -37,8 +36,8 @@ rowEnding rows = rowContent rows .1
 abbrev pub noRow : WordRow
 noRow = record { len = 0; letters = []; marks = 0 }
 
--- rows of which k have been passed, where c came before them, and how the list ends there: cleanly with the last row, or
--- at a row that is one word too many or makes no word
+-- rows of which k have been passed, where c words came before them, and how the list ends there: cleanly with the last
+-- row, or at a row that is one word too many or makes no word
 abbrev pub RowsEnd : ℕ → List WordRow → ℕ → Ending → Type 0
 RowsEnd c rows k (inl u) = k ≡ length rows
 RowsEnd c rows k (inr r) =

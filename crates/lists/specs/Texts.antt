@@ -10,11 +10,7 @@ use Rattle.text.specs.Lines.{linesOf}
 use Rattle.text.specs.Refusals.{Refused, atByte}
 use Rattle.words.specs.Words.{Headword}
 use Rattle.words.specs.Line.{Reading, blank, spells, refused, reading}
-use Rattle.lists.specs.Listing.{fullest, Ending, clean, stops, Content}
-
--- past the last word allowed, a line that is not empty
-abbrev pub overfull : ℕ → Content
-overfull n = ([], stops (atByte 9 n 1))
+use Rattle.lists.specs.Listing.{fullest, Ending, clean, stops, Content, overfull}
 
 -- what line n adds, where c words came before it: an empty line nothing, and any other a word or the ending
 abbrev pub contentBy : Reading → ℕ → ℕ → Content → Content → Content
