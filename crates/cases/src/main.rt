@@ -1,7 +1,9 @@
 //! Runs many sheets from standard input. Each begins with a line `= what it shows`, and ends before the line feed in
 //! front of the next such line, or with the input. Every case is answered by its first line and the run's line.
-ghost use Prim.Native.Nat.{_≤_};
+ghost use Prim.Native.Nat.{ℕ, _<_, _≤_};
 ghost use lib.ListN.{length};
+ghost use Rattle.std.specs.Orderings.{Decides};
+ghost use Rattle.cases.specs.Parted.{CaseAt};
 use sheet::writing::LINE;
 use sheet::writing::run;
 use std::error::AnyError;
@@ -9,13 +11,23 @@ use std::io::Read;
 use std::io::Write;
 use text::cursor::Lines;
 
+// Whether a case begins at `i`: with a `=` behind a line feed.
+fn begins_case(text: &[u8], i: usize) -> bool
+    requires { ⌜ i < length (now text) ⌝ }
+    ensures { λ r. ⌜ Decides r (CaseAt (now (text .entry)) i) ⌝ }
+{
+    i > 0 && text[i] == b'=' && text[i - 1] == b'\n'
+}
+
 // Where the next case begins, from `from` on: at a `=` behind a line feed, or else at the end of the text.
 fn next_case(text: &[u8], from: usize) -> usize
     requires { ⌜ from ≤ length (now text) ⌝ }
-    ensures { λ r. ⌜ (from ≤ r) × (r ≤ length (now (text .entry))) ⌝ }
+    ensures inside { λ r. ⌜ (from ≤ r) × (r ≤ length (now (text .entry))) ⌝ }
+    ensures begins { λ r. ⌜ (r < length (now (text .entry)) → CaseAt (now (text .entry)) r) ⌝ }
+    ensures first { λ r. ⌜ ((k : ℕ) → from ≤ k → k < r → CaseAt (now (text .entry)) k → ⊥) ⌝ }
 {
     for i in from..text.len() {
-        if text[i] == b'=' && i > 0 && text[i - 1] == b'\n' {
+        if begins_case(text, i) {
             return i;
         }
     }

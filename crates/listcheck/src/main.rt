@@ -1,10 +1,11 @@
 //! Checks a word list of any size: `listcheck left,right FILE`.
-use lists::counting::count_list;
-use lists::textlist::TextList;
-use lists::texts::TextWords;
+ghost use mathlib.Core.Path.{_≡_};
+ghost use lib.ListN.{getD};
+ghost use Rattle.std.specs.Vec.{made};
+ghost use Rattle.sheet.specs.Sheets.{figuresIn};
+use sheet::reading::check_words;
 use sheet::writing::LINE;
-use sheet::writing::write_counts;
-use sheet::writing::write_refusal;
+use sheet::writing::write_outcome;
 use std::env;
 use std::error::AnyError;
 use std::fs;
@@ -13,7 +14,9 @@ use text::figures::read_figures;
 use words::word::Bounds;
 
 // The bounds that an argument names.
-fn bounds(argument: &str) -> Result<Bounds, AnyError> {
+fn bounds(argument: &str) -> Result<Bounds, AnyError>
+    ensures { λ r. ⌜ made r (λ b. (b .left ≡ getD (figuresIn 2 (now (argument .entry))) 0 0) × (b .right ≡ getD (figuresIn 2 (now (argument .entry))) 1 0)) ⌝ }
+{
     let Some(figures) = read_figures::<2>(argument.as_bytes()) else {
         return Err("the bounds are two figures, as 2,3".into());
     };
@@ -32,13 +35,8 @@ fn answer(rt: &LibcRuntime) -> Result<(), AnyError> {
     };
     let bounds = bounds(first.as_str())?;
     let text = fs::read(rt, path.as_str())?;
-    let mut list = TextList::new(text.as_slice());
     let mut line = [0; LINE];
-    let written = match count_list(&mut list, bounds) {
-        Ok(counts) => write_counts(counts, &mut line),
-        Err(fault) => write_refusal(fault.refusal(), &mut line),
-    };
-    let Ok(n) = written else {
+    let Ok(n) = write_outcome(check_words(text.as_slice(), bounds), &mut line) else {
         return Err("the line is longer than its memory".into());
     };
     let mut stdout = rt.stdout();

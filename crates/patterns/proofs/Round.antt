@@ -12,6 +12,7 @@ use lib.Dec.{leb, ltb, eqb, lit<}
 use Rattle.std.proofs.shelf.Lists.{getD-append-left, getD-at, length-push, length-append, getD-push, length-set, getD-set-same, getD-set-other, set-getD, take-more, take-all, length-take-le, getD-take, getD-past, ext-getD}
 use Rattle.std.proofs.shelf.Tests.{cases-lt, cases-eq, le-leb, lt-leb, lt-ltb, le-ltb, ne-eqb, and-from, and-left, and-right, or-from, true≢false, cond-true, cond-false}
 use Rattle.text.specs.Refusals.{atByte}
+use Rattle.text.proofs.Padding.{zeros}
 use Rattle.words.specs.Words.{alphabet}
 use Rattle.patterns.specs.Spellings.{longest, places, highest, anyAbove, Spelled, Valid}
 use Rattle.patterns.specs.Views.{spelled}
@@ -20,7 +21,7 @@ use Rattle.patterns.specs.declared.reading.Piece.the-variants.{Symbol, Digit, 
 use Rattle.patterns.specs.Texts.{digit, byteOf, textTo, textOf, pieceOf, pieceAt, symbolIn, withValue, isDigit, symbolsTo, valuesTo, afterDigit, shut, offends, offendsAt, orElse, firstTo, Reading, spells, refused, readingBy, lacking, reading}
 use Rattle.patterns.specs.declared.pattern.Pattern.{Pattern}
 use Rattle.patterns.proofs.Bytes.{digit-le}
-use Rattle.patterns.proofs.Spells.{Front, front-none, front-more, Sound, sound, bytes, Bytes, inverse, no-offence, zeros}
+use Rattle.patterns.proofs.Spells.{Front, front-none, front-more, Sound, sound, bytes, Bytes, inverse, no-offence}
 
 -- ---- a text depends on the symbols before its place, and on the values up to it
 

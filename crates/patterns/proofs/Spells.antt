@@ -13,6 +13,7 @@ use lib.Dec.{leb, ltb, eqb}
 use Rattle.std.proofs.shelf.Lists.{set-at, getD-append-left, getD-append-right, getD-past, length-push, getD-push, length-set, getD-set-same, getD-set-other, take-at, take-more, nil-from-length}
 use Rattle.std.proofs.shelf.Tests.{cond-both, cases-lt, cases-eq, leb-true, leb-false, le-leb, lt-leb, lt-ltb, le-ltb, eqb-true, eqb-false, and-parts, or-parts, and-cases, false≢true, true≢false, cond-true, ltb-false}
 use Rattle.text.specs.Refusals.{atByte}
+use Rattle.text.proofs.Padding.{zeros, pad-set, pad-get}
 use Rattle.words.specs.Words.{alphabet}
 use Rattle.patterns.specs.Spellings.{longest, places, highest, anyAbove, Spelled}
 use Rattle.patterns.specs.declared.reading.Piece.{Piece}
@@ -28,11 +29,6 @@ any-zero (suc x) xs e = absurd (omega arith)
 pub any-here : (x : ℕ) (xs : List ℕ) → 0 < x → anyAbove (x ∷ xs) ≡ true
 any-here zero xs h = absurd (omega arith)
 any-here (suc x) xs h = refl
-
-pub zeros : (n k : ℕ) → getD (replicate {A = ℕ} n 0) k 0 ≡ 0
-zeros zero k = refl
-zeros (suc n) zero = refl
-zeros (suc n) (suc k) = zeros n k
 
 any-zeros : (n : ℕ) → anyAbove (replicate n 0) ≡ false
 any-zeros zero = refl
@@ -184,18 +180,6 @@ sound t (suc i) e =
     let p = inverse (firstTo t i) i (offendsAt t i) e in
     sound-more (pieceAt t i) (getD t i 0) (symbolsTo t i) (valuesTo t i) (afterDigit t i) (bytes (getD t i 0)) (no-offence t i (p .1)) (sound t i (p .0))
 
--- ---- the arrays
-
-pub pad-set : (c : ℕ) (xs : List ℕ) (n s : ℕ) → n ≡ length xs → n < c → set (xs ++ replicate (c - n) 0) n s ≡ (xs ++ s ∷ []) ++ replicate (c - (n + 1)) 0
-pad-set c xs n s e h =
-    let q : c - n ≡ suc (c - (n + 1)) = omega arith in
-    ap (λ (j : ℕ). set (xs ++ replicate j 0) n s) q ∙ set-at xs 0 (replicate (c - (n + 1)) 0) s n (sym e) ∙ sym (append-assoc xs (s ∷ []) (replicate (c - (n + 1)) 0))
-
-pub pad-at-symbol : (xs : List ℕ) (n k : ℕ) → getD (xs ++ replicate n 0) k 0 ≡ getD xs k 0
-pad-at-symbol [] n k = zeros n k
-pad-at-symbol (x ∷ xs) n zero = refl
-pad-at-symbol (x ∷ xs) n (suc k) = pad-at-symbol xs n k
-
 -- ---- the loop
 
 abbrev pub At : List ℕ → ℕ → List ℕ → List ℕ → ℕ → Bool → Type 0
@@ -216,7 +200,7 @@ module _ (t : List ℕ) (i : ℕ) (S V : List ℕ) (n : ℕ) (a : Bool) (at : At
   at-sound = subst₂ (λ (x : List ℕ) (b : Bool). Sound (symbolsTo t i) x b) (at .0 .values) (at .0 .after) (sound t i (at .0 .good))
 
   pub at-symbol : (k : ℕ) → getD S k 0 ≡ getD (symbolsTo t i) k 0
-  at-symbol k = ap (λ (x : List ℕ). getD x k 0) (at .3) ∙ pad-at-symbol (symbolsTo t i) (longest - n) k
+  at-symbol k = ap (λ (x : List ℕ). getD x k 0) (at .3) ∙ pad-get (symbolsTo t i) (longest - n) k
 
   pub shut-is : (s : ℕ) → shut S n ≡ offends (Symbol s) a (symbolsTo t i)
   shut-is s = ap (λ (x : ℕ). leb longest n || (ltb 1 n && eqb x 0)) (at-symbol (n - 1)) ∙ ap (shut (symbolsTo t i)) (at .1)

@@ -15,7 +15,7 @@ use Rattle.lists.specs.Listing.{Ending, Content}
 use Rattle.lists.specs.Texts.{textContent}
 use Rattle.lists.specs.Calls.{Counted}
 use Rattle.sheet.specs.Sheets.{Sheeted, sheet, sheetOf}
-use Rattle.sheet.specs.Outcomes.{Outcome, counts, refuses, countedBy, checkedBy, checked}
+use Rattle.sheet.specs.Outcomes.{Outcome, counts, refuses, countedBy, wordsOutcome, checkedBy, checked}
 
 by-ok : (left right : ℕ) (words : List Headword) (ending : Ending) (c : ListCounts) → Counted left right words ending (Ok c) → counts (c .words) (c .hyphens) ≡ countedBy left right words ending
 by-ok left right words ending c h = ap₂ counts (h .1) (h .2) ∙ ap (countedBy left right words) (sym (h .0))
@@ -23,13 +23,14 @@ by-ok left right words ending c h = ap₂ counts (h .1) (h .2) ∙ ap (countedBy
 by-err : (left right : ℕ) (words : List Headword) (ending : Ending) (f : ListFault) → Counted left right words ending (Err f) → refuses (listRefused f) ≡ countedBy left right words ending
 by-err left right words ending f h = ap (countedBy left right words) (sym h)
 
--- the list that was counted is that of the text t, which is the rest of the sheet
-module _ (longer : Bool) (input : List ℕ) (left right : ℕ) (words t : List ℕ) (s : sheet left right words ≡ sheetOf longer input) (e : t ≡ words) where
-  by-sheet : countedBy left right (textContent t .0) (textContent t .1) ≡ checked longer input
-  by-sheet = ap (λ (x : List ℕ). checkedBy (sheet left right x)) e ∙ ap checkedBy s
+-- the list that was counted is that of a text t
+module _ (left right : ℕ) (t words : List ℕ) (e : t ≡ words) where
+  pub counted-ok : (c : ListCounts) → Counted left right (textContent t .0) (textContent t .1) (Ok c) → counts (c .words) (c .hyphens) ≡ wordsOutcome left right words
+  counted-ok c h = by-ok left right (textContent t .0) (textContent t .1) c h ∙ ap (wordsOutcome left right) e
 
-  pub counted-ok : (c : ListCounts) → Counted left right (textContent t .0) (textContent t .1) (Ok c) → counts (c .words) (c .hyphens) ≡ checked longer input
-  counted-ok c h = by-ok left right (textContent t .0) (textContent t .1) c h ∙ by-sheet
+  pub counted-err : (f : ListFault) → Counted left right (textContent t .0) (textContent t .1) (Err f) → refuses (listRefused f) ≡ wordsOutcome left right words
+  counted-err f h = by-err left right (textContent t .0) (textContent t .1) f h ∙ ap (wordsOutcome left right) e
 
-  pub counted-err : (f : ListFault) → Counted left right (textContent t .0) (textContent t .1) (Err f) → refuses (listRefused f) ≡ checked longer input
-  counted-err f h = by-err left right (textContent t .0) (textContent t .1) f h ∙ by-sheet
+-- the words of a sheet are the rest of the input
+pub of-sheet : (longer : Bool) (input : List ℕ) (left right : ℕ) (words t : List ℕ) → sheet left right words ≡ sheetOf longer input → t ≡ words → wordsOutcome left right t ≡ checked longer input
+of-sheet longer input left right words t s e = ap (wordsOutcome left right) e ∙ ap checkedBy s

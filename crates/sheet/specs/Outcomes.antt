@@ -22,8 +22,12 @@ abbrev pub countedBy : ℕ → ℕ → List Headword → Ending → Outcome
 countedBy left right words (inl u) = counts (length words) (sumOf (hyphensWithin left right) words)
 countedBy left right words (inr r) = refuses r
 
+-- of the word list of a text
+abbrev pub wordsOutcome : ℕ → ℕ → List ℕ → Outcome
+wordsOutcome left right words = countedBy left right (textContent words .0) (textContent words .1)
+
 abbrev pub checkedBy : Sheeted → Outcome
-checkedBy (sheet left right words) = countedBy left right (textContent words .0) (textContent words .1)
+checkedBy (sheet left right words) = wordsOutcome left right words
 checkedBy (wrong r) = refuses r
 
 -- a sheet is checked, and then the list that it holds

@@ -4,7 +4,7 @@ ghost use Prim.Native.Nat.{_≤_};
 ghost use lib.ListN.{length};
 ghost use Rattle.std.specs.Vec.{made};
 ghost use Rattle.sheet.specs.Sheets.{sheetOf};
-ghost use Rattle.sheet.specs.Outcomes.{checked};
+ghost use Rattle.sheet.specs.Outcomes.{wordsOutcome, checked};
 ghost use Rattle.sheet.specs.Views.{sheeted, outcome};
 ghost use Rattle.sheet.specs.Taken.{FiguresTaken, EmptyTaken};
 use crate::fault::ListInRun;
@@ -77,11 +77,19 @@ pub fn read_sheet(input: &[u8], longer: bool) -> Result<Sheet, SheetFault>
     }
 }
 
-/// Checks a sheet and the word list in it: how many words it has and how many hyphens within bounds, or the refusal.
+/// Checks the word list of a text: how many words it has and how many hyphens within bounds, or its fault.
+pub fn check_words(words: &[u8], bounds: Bounds) -> Result<ListCounts, RunFault>
+    ensures { λ r. ⌜ outcome r ≡ wordsOutcome (bounds .left) (bounds .right) (now (words .entry)) ⌝ }
+{
+    let mut list = TextList::new(words);
+    Ok(count_list(&mut list, bounds)?)
+}
+
+/// Checks a sheet, and then the word list in it.
 pub fn check(input: &[u8], longer: bool) -> Result<ListCounts, RunFault>
     ensures { λ r. ⌜ outcome r ≡ checked longer (now (input .entry)) ⌝ }
 {
     let sheet = read_sheet(input, longer)?;
-    let mut list = TextList::new(&input[sheet.words_at..]);
-    Ok(count_list(&mut list, sheet.bounds)?)
+    let from = sheet.words_at;
+    check_words(&input[from..], sheet.bounds)
 }

@@ -3,6 +3,8 @@ ghost use mathlib.Core.Path.{_≡_};
 ghost use Rattle.text.specs.Refusals.{sixOf};
 ghost use Rattle.text.specs.Written.{Wrote};
 ghost use Rattle.sheet.specs.Outcomes.{checked, countsLine, refusalLine, outcomeLine};
+ghost use Rattle.sheet.specs.Views.{outcome};
+use crate::fault::RunFault;
 use crate::reading::check;
 use lists::counting::ListCounts;
 use text::memory::Short;
@@ -34,12 +36,22 @@ pub fn write_refusal(refusal: Refusal, memory: &mut [u8]) -> Result<usize, Short
     write_line(b"refused,", &six, memory)
 }
 
+/// Writes what a check answered: the counts, or the refusal.
+pub fn write_outcome(
+    answer: Result<ListCounts, RunFault>,
+    memory: &mut [u8],
+) -> Result<usize, Short>
+    ensures { λ r. ⌜ Wrote (outcomeLine (outcome answer)) (now (memory .entry)) r (now (memory .exit)) ⌝ }
+{
+    match answer {
+        Ok(counts) => write_counts(counts, memory),
+        Err(fault) => write_refusal(fault.refusal(), memory),
+    }
+}
+
 /// The whole run on the bytes of a sheet: writes the one line that the program answers.
 pub fn run(input: &[u8], longer: bool, memory: &mut [u8]) -> Result<usize, Short>
     ensures { λ r. ⌜ Wrote (outcomeLine (checked longer (now (input .entry)))) (now (memory .entry)) r (now (memory .exit)) ⌝ }
 {
-    match check(input, longer) {
-        Ok(counts) => write_counts(counts, memory),
-        Err(fault) => write_refusal(fault.refusal(), memory),
-    }
+    write_outcome(check(input, longer), memory)
 }

@@ -1,4 +1,5 @@
 pub mod Splitting
+pub mod Padding
 mod Commas
 mod Cuts
 mod Overlays

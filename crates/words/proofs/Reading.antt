@@ -17,6 +17,7 @@ use Rattle.std.proofs.shelf.Tests.{cond-both, cases-lt, leb-true, le-leb, lt-le
 use Rattle.words.specs.declared.line.Kind.{Kind}
 use Rattle.words.specs.declared.line.Kind.the-variants.{Letter, Mark, Other}
 use Rattle.text.specs.Refusals.{atByte}
+use Rattle.text.proofs.Padding.{zeros, pad-set}
 use Rattle.words.specs.Words.{Headword, alphabet, longest}
 use Rattle.words.specs.Line.{kindOf, kindAt, symbolsOf, isLetter, bitOf, lettersTo, marksTo, afterLetter, faultOf, faultAt, First, none, fault, firstOf, orElse, firstTo, reading, readingBy, Reading, blank, spells, refused}
 
@@ -156,18 +157,6 @@ ends bs (suc n) l h e =
     last-letter (kindAt bs n) (afterLetter bs n) (length (lettersTo bs n))
     (ap (λ (b : Bool). faultOf (kindAt bs n) (afterLetter bs n) b (length (lettersTo bs n))) (sym (le-leb (length bs) (n + 1) (omega arith))) ∙ fault-zero bs n (p .1))
 
--- ---- the array of letters
-
-pad-set : (xs : List ℕ) (n s : ℕ) → n ≡ length xs → n < longest → set (xs ++ replicate (longest - n) 0) n s ≡ (xs ++ s ∷ []) ++ replicate (longest - (n + 1)) 0
-pad-set xs n s e h =
-    let q : longest - n ≡ suc (longest - (n + 1)) = omega arith in
-    ap (λ (j : ℕ). set (xs ++ replicate j 0) n s) q ∙ set-at xs 0 (replicate (longest - (n + 1)) 0) s n (sym e) ∙ sym (append-assoc xs (s ∷ []) (replicate (longest - (n + 1)) 0))
-
-zeros : (n k : ℕ) → getD (replicate {A = ℕ} n 0) k 0 ≡ 0
-zeros zero k = refl
-zeros (suc n) zero = refl
-zeros (suc n) (suc k) = zeros n k
-
 -- ---- what the loop holds after i bytes
 
 pub record At (bs : List ℕ) (i : ℕ) (letters : List ℕ) (len marks : ℕ) (after : Bool) : Type 0 where
@@ -199,7 +188,7 @@ module _ (bs : List ℕ) (i : ℕ) (L : List ℕ) (n m : ℕ) (a : Bool) (at : A
         clean = first-more bs i (at .clean) z;
         counted = ap (λ (x : ℕ). x + 1) (at .counted) ∙ sym (length-push (lettersTo bs i) s) ∙ ap length (sym e);
         room = omega arith;
-        filled = ap (λ (x : List ℕ). set x n s) (at .filled) ∙ pad-set (lettersTo bs i) n s (at .counted) h ∙ ap (λ (x : List ℕ). x ++ replicate (longest - (n + 1)) 0) (sym e);
+        filled = ap (λ (x : List ℕ). set x n s) (at .filled) ∙ pad-set longest (lettersTo bs i) n s (at .counted) h ∙ ap (λ (x : List ℕ). x ++ replicate (longest - (n + 1)) 0) (sym e);
         marked = at .marked ∙ sym (marks-more bs i ∙ ap (λ (x : Kind). marksTo bs i + bitOf x (length (lettersTo bs i))) k ∙ add-zero (marksTo bs i));
         follows = sym (after-more bs i ∙ ap isLetter k);
       }
