@@ -2,6 +2,7 @@
 //! patterns in a book of that limit, and writes the patterns that the book then holds, in order, the values of the word's
 //! positions, and how many of them are found, wrong and missed; or the refusal of the first raise that is refused. Each case is
 //! tried on a table and on a tree, which must answer alike.
+#![tactic(auto)]
 use anyhow::{Context, anyhow};
 use books::book::{ReadingBook, WritingBook};
 use kinds::kind::{KindCounts, count_kinds};

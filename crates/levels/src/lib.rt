@@ -1,4 +1,5 @@
 //! The settings of a level, and the order of its passes.
+#![tactic(auto)]
 pub mod checking;
 pub mod order;
 pub mod settings;

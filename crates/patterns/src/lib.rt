@@ -1,4 +1,5 @@
 //! Patterns: spellings and their order, rows of values, and pattern text both ways.
+#![tactic(auto)]
 pub mod making;
 pub mod order;
 pub mod parts;

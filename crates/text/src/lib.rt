@@ -1,4 +1,6 @@
 //! Texts in lent bytes: their lines, the figures in them, and refusals, which name a line and a column.
+#![tactic(auto)]
+
 pub mod cursor;
 pub mod figures;
 pub mod lines;

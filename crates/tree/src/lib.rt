@@ -1,4 +1,5 @@
 //! The spelling tree: values at spellings, over lent cells.
+#![tactic(auto)]
 pub mod cell;
 mod clear;
 mod descend;

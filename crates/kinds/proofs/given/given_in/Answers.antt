@@ -15,8 +15,8 @@ loop-i-preserved g c =
     let w = headword c.args.word.now in
     let i = c.loop-i.i in
     let v = c.from.result in
-    let e : v ≡ value b w i % 2 = c.from.ensures ∙ ap (λ (x : ℕ). x % 2) (c.values-of-values.ensures.value i) in
-    setting_more (isGiven b w) c.args.bounds.left c.saturating-sub-i-end.result i c.loop-i.given v c.loop-i-test.true (omega (arith, c.args.word.now.sized.1)) (omega arith)
+    let e : v ≡ value b w i % 2 = c.from.ensures ∙ ap (λ (x : ℕ). x % 2) (c.values_of-values.ensures.value i) in
+    setting_more (isGiven b w) c.args.bounds.left c.saturating_sub-i-end.result i c.loop-i.given v c.loop-i-test.true (omega (arith, c.args.word.now.sized.1)) (omega arith)
     (ap (λ (x : ℕ). one (eqb x 1)) (sym e) ∙ digit v (omega arith)) c.loop-i.invariant
 
 pub returns : goal.returns
@@ -25,6 +25,6 @@ returns g c =
     let w = c.args.word.now in
     let l = c.args.bounds.left in
     let r = c.args.bounds.right in
-    let n : c.saturating-sub-i-end.result - l ≡ suc (length (take w.len w.letters) - r) - l = omega (arith, letters_length w, c.args.bounds.ranged) in
-    setting_all (isGiven b (headword w)) l c.saturating-sub-i-end.result c.loop-i.i c.loop-i.given c.loop-i-test.false c.loop-i.invariant
+    let n : c.saturating_sub-i-end.result - l ≡ suc (length (take w.len w.letters) - r) - l = omega (arith, letters_length w, c.args.bounds.ranged) in
+    setting_all (isGiven b (headword w)) l c.saturating_sub-i-end.result c.loop-i.i c.loop-i.given c.loop-i-test.false c.loop-i.invariant
     ∙ ap (kept (isGiven b (headword w)) l) n

@@ -39,5 +39,5 @@ returns g c =
     let h = bit_and w.marks c.mask.result in
     let e : h ≡ bit_and w.marks (bits_of (numbers l n)) = ap (bit_and w.marks) (c.mask.ensures ∙ ap (λ (x : ℕ). bits_of (numbers l x)) k) in
     let o : h < 2 ^ 64 = omega (arith, and_le_l w.marks c.mask.result) in
-    let t = masks (headword w) (isGiven b (headword w)) n l h c.given-in-given.result e c.given-in-given.ensures o (omega arith) in
+    let t = masks (headword w) (isGiven b (headword w)) n l h c.given_in-given.result e c.given_in-given.ensures o (omega arith) in
     record { found = t.0; wrong = t.1; missed = t.2 }

@@ -14,8 +14,8 @@ loop-start-init g c = (refl, λ q. zeros gap_count q)
 pub loop-start-preserved : goal.loop-start-preserved
 loop-start-preserved g c = (
   c.lift.auto.gaps ∙ c.loop-start.invariant.0,
-  starts_more (g.B.ReadingBook.held c.args.book.now) (headword c.args.word.now) c.loop-start.start c.loop-start.gaps c.lift.new.gaps c.row-at-row.result.values
-      c.row-at-row.ensures c.lift.ensures c.loop-start.invariant.1,
+  starts_more (g.B.ReadingBook.held c.args.book.now) (headword c.args.word.now) c.loop-start.start c.loop-start.gaps c.lift.new.gaps c.row_at-row.result.values
+      c.row_at-row.ensures c.lift.ensures c.loop-start.invariant.1,
 )
 
 pub returns : goal.returns

@@ -5,8 +5,8 @@ use Rattle.sheet.proofs.reading.check.Goals as goal
 
 pub returns : goal.returns
 returns c =
-    let s = c.in-ok-sheet.sheet in
+    let s = c.in_ok-sheet.sheet in
     let input = c.args.input.now in
-    c.check-words.ensures
+    c.check_words.ensures
     ∙ of_sheet c.args.longer input s.bounds.left s.bounds.right (drop s.words_at input) (take (length input - s.words_at) (drop s.words_at input))
-    c.in-ok-sheet.ensures.value (take_rest input s.words_at)
+    c.in_ok-sheet.ensures.value (take_rest input s.words_at)

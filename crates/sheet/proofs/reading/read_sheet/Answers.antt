@@ -17,30 +17,30 @@ returns-then-longer c =
       inside = tt;
     }
 
-pub returns-in-err-left : goal.returns-in-err-left
-returns-in-err-left c =
+pub returns-in_err-left : goal.returns-in_err-left
+returns-in_err-left c =
     let n = c.new-lines.ensures.all in
-    let q = err_from_is_err_and c.from-residual.result c.from-residual.ensures.1 in
+    let q = err_from_is_err_and c.from_residual.result c.from_residual.ensures.1 in
     let v = line_1_bad c.args.longer c.args.input.now c.if-longer.false c.if-input-gt-LARGEST.false c.new-lines.result n.0 n.1
-    c.take-figures.new.lines c.in-err-left.field-0.0 c.in-err-left.ensures.taken in
+    c.take_figures.new.lines c.in_err-left.field-0.0 c.in_err-left.ensures.taken in
     rw (q.1, q.2) (record { value = v; inside = tt })
 
-pub returns-in-err-take-empty : goal.returns-in-err-take-empty
-returns-in-err-take-empty c =
+pub returns-in_err-take_empty : goal.returns-in_err-take_empty
+returns-in_err-take_empty c =
     let n = c.new-lines.ensures.all in
-    let q = err_from_is_err_and c.from-residual-in-err-take-empty.result c.from-residual-in-err-take-empty.ensures.1 in
+    let q = err_from_is_err_and c.from_residual-in_err-take_empty.result c.from_residual-in_err-take_empty.ensures.1 in
     let v = line_2_bad c.args.longer c.args.input.now c.if-longer.false c.if-input-gt-LARGEST.false c.new-lines.result n.0 n.1
-    c.take-figures.new.lines _ c.in-ok-left.ensures.taken c.take-empty.new.lines c.in-err-take-empty.field-0.0 c.in-err-take-empty.ensures.taken in
+    c.take_figures.new.lines _ c.in_ok-left.ensures.taken c.take_empty.new.lines c.in_err-take_empty.field-0.0 c.in_err-take_empty.ensures.taken in
     rw (q.1, q.2) (record { value = v; inside = tt })
 
 pub returns-in-Ok : goal.returns-in-Ok
 returns-in-Ok c =
     let n = c.new-lines.ensures.all in
     let b = c.in-Ok.ensures in
-    let second = c.take-empty.new.lines in
-    let t : second.text.now ≡ c.args.input.now = c.take-empty.ensures.text ∙ c.take-figures.ensures.text ∙ c.new-lines.ensures.text in
+    let second = c.take_empty.new.lines in
+    let t : second.text.now ≡ c.args.input.now = c.take_empty.ensures.text ∙ c.take_figures.ensures.text ∙ c.new-lines.ensures.text in
     let v = lines_good c.args.longer c.args.input.now c.if-longer.false c.if-input-gt-LARGEST.false c.new-lines.result n.0 n.1
-    c.take-figures.new.lines _ c.in-ok-left.ensures.taken second c.in-ok-take-empty.ensures.taken in
+    c.take_figures.new.lines _ c.in_ok-left.ensures.taken second c.in_ok-take_empty.ensures.taken in
     record {
       value = sym (in_range_lem c.in-Ok.bounds.left c.in-Ok.bounds.right (drop second.pos c.args.input.now) c.in-Ok.bounds.ranged)
           ∙ ap (λ (x : List ℕ). ranged_by c.in-Ok.bounds.left c.in-Ok.bounds.right (drop second.pos x)) (sym t)
@@ -52,7 +52,7 @@ returns-in-Ok c =
 pub returns-in-Err : goal.returns-in-Err
 returns-in-Err c =
     let n = c.new-lines.ensures.all in
-    let second = c.take-empty.new.lines in
+    let second = c.take_empty.new.lines in
     let v = lines_good c.args.longer c.args.input.now c.if-longer.false c.if-input-gt-LARGEST.false c.new-lines.result n.0 n.1
-    c.take-figures.new.lines _ c.in-ok-left.ensures.taken second c.in-ok-take-empty.ensures.taken in
+    c.take_figures.new.lines _ c.in_ok-left.ensures.taken second c.in_ok-take_empty.ensures.taken in
     record { value = sym (out_of_range _ _ _ c.in-Err.ensures) ∙ v; inside = tt }

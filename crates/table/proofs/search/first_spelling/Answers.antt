@@ -13,8 +13,8 @@ some_first : (rows : List Pattern) (d : Pattern) → (length rows ≡ 0 → ⊥)
 some_first [] d h = absurd (h refl)
 some_first (p ∷ rows) d h = refl
 
-pub returns-then-is-empty : goal.returns-then-is-empty
-returns-then-is-empty c = none_first c.args.rows.now (eqb-true (length c.args.rows.now) 0 (sym c.if-is-empty.ensures))
+pub returns-then-is_empty : goal.returns-then-is_empty
+returns-then-is_empty c = none_first c.args.rows.now (eqb-true (length c.args.rows.now) 0 (sym c.if-is_empty.ensures))
 
 pub returns : goal.returns
-returns c = some_first c.args.rows.now c.index-rows-0.result (eqb-false (length c.args.rows.now) 0 (sym c.if-is-empty.ensures))
+returns c = some_first c.args.rows.now c.index-rows-0.result (eqb-false (length c.args.rows.now) 0 (sym c.if-is_empty.ensures))

@@ -11,8 +11,8 @@ use Rattle.table.proofs.writing.joined.Goals as goal
 symbols_length : (s : Spelling) → length (symbols_of s) ≡ s.len
 symbols_length s = length-take-le s.len s.symbols (omega (arith, s.full, s.sized.1))
 
-pub invariant-of-result : goal.invariant-of-result
-invariant-of-result c =
+pub invariant_of-result : goal.invariant_of-result
+invariant_of-result c =
     let old = c.args.old.now in
     let new = c.args.new.now in
     let a = symbols_length old.spelling in

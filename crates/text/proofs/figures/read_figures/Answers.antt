@@ -14,31 +14,31 @@ pub loop-figure-init : goal.loop-figure-init
 loop-figure-init g c =
     (length-replicate g.row.N 0, ap (λ n. onward [] n (pieces c.args.line.now)) (sub-zero g.row.N))
 
-pub returns-in-err-rest : goal.returns-in-err-rest
-returns-in-err-rest g c =
-    c.from-residual.ensures ∙ onward_other _ _ [] (λ e. omega arith) ∙ left_at _ _ _ _ _ c.in-err-rest.was c.loop-figure.invariant.1
+pub returns-in_err-rest : goal.returns-in_err-rest
+returns-in_err-rest g c =
+    c.from_residual.ensures ∙ onward_other _ _ [] (λ e. omega arith) ∙ left_at _ _ _ _ _ c.in_err-rest.was c.loop-figure.invariant.1
 
 pub loop-figure-preserved : goal.loop-figure-preserved
 loop-figure-preserved g c =
     let items = c.loop-figure.figure-items in
     let i = c.loop-figure.figure-index in
-    let v = c.in-ok-figure.field-0 in
+    let v = c.in_ok-figure.field-0 in
     let ps = pieces_after c.cut.result.1 in (
       length-set items i v ∙ c.loop-figure.invariant.0,
       ap (λ done. onward done (g.row.N - (i + 1)) ps) (take_more_set items i v (omega arith))
-          ∙ onward_more (take i items) (g.row.N - i) (g.row.N - (i + 1)) c.cut.result.0.now ps v (omega arith) c.in-ok-figure.ensures
+          ∙ onward_more (take i items) (g.row.N - i) (g.row.N - (i + 1)) c.cut.result.0.now ps v (omega arith) c.in_ok-figure.ensures
           ∙ ap (onward (take i items) (g.row.N - i)) (sym c.cut.ensures)
-          ∙ left_at _ _ _ _ _ c.in-ok-rest.was c.loop-figure.invariant.1,
+          ∙ left_at _ _ _ _ _ c.in_ok-rest.was c.loop-figure.invariant.1,
     )
 
-pub returns-in-err-figure : goal.returns-in-err-figure
-returns-in-err-figure g c =
+pub returns-in_err-figure : goal.returns-in_err-figure
+returns-in_err-figure g c =
     let items = c.loop-figure.figure-items in
     let i = c.loop-figure.figure-index in
-    c.from-residual-in-err-figure.ensures
-    ∙ onward_refused (take i items) (g.row.N - i) c.cut.result.0.now (pieces_after c.cut.result.1) c.in-err-figure.ensures
+    c.from_residual-in_err-figure.ensures
+    ∙ onward_refused (take i items) (g.row.N - i) c.cut.result.0.now (pieces_after c.cut.result.1) c.in_err-figure.ensures
     ∙ ap (onward (take i items) (g.row.N - i)) (sym c.cut.ensures)
-    ∙ left_at _ _ _ _ _ c.in-ok-rest.was c.loop-figure.invariant.1
+    ∙ left_at _ _ _ _ _ c.in_ok-rest.was c.loop-figure.invariant.1
 
 pub returns-in-Some : goal.returns-in-Some
 returns-in-Some g c =

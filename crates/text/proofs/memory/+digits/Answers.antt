@@ -3,8 +3,8 @@ use Rattle.std.proofs.lemmas.Fmt.{decimal_digit, decimal_step, length-decimal-le
 use Rattle.std.proofs.lemmas.List.{length_push}
 use Rattle.text.proofs.memory.+digits.Goals as goal
 
-pub overflow-add-result : goal.overflow-add-result
-overflow-add-result t c =
+pub overflow_add-result : goal.overflow_add-result
+overflow_add-result t c =
     let few : length (decimal (c.args.n / 10)) ≤ 20 = length-decimal-le 20 (c.args.n / 10) (omega arith) (omega arith) (omega arith) in
     omega (arith, c.digits.ensures)
 

@@ -9,24 +9,24 @@ use Rattle.text.proofs.memory.+put_number.Goals as goal
 length_step : (n : ℕ) → 10 ≤ n → n < 2 ^ 64 → length (decimal n) ≡ length (decimal (n / 10)) + 1
 length_step n h fits = ap length (decimal_step n h fits) ∙ length_push (decimal (n / 10)) (48 + n % 10)
 
-pub put-byte-requires : goal.put-byte-requires
-put-byte-requires t c = omega (arith, ap length (decimal_digit c.args.n c.if-n-lt10.true))
+pub put_byte-requires : goal.put_byte-requires
+put_byte-requires t c = omega (arith, ap length (decimal_digit c.args.n c.if-n-lt10.true))
 
 pub returns-then-n-lt10 : goal.returns-then-n-lt10
 returns-then-n-lt10 t c =
     let one = decimal_digit c.args.n c.if-n-lt10.true in
     record {
-      end = omega (arith, ap length one, c.put-byte.ensures.end);
-      text = c.put-byte.ensures.text ∙ ap (overlaid c.args.memory.now c.args.at) (sym one);
+      end = omega (arith, ap length one, c.put_byte.ensures.end);
+      text = c.put_byte.ensures.text ∙ ap (overlaid c.args.memory.now c.args.at) (sym one);
     }
 
-pub put-number-last-requires : goal.put-number-last-requires
-put-number-last-requires t c =
+pub put_number-last-requires : goal.put_number-last-requires
+put_number-last-requires t c =
     (omega (arith, c.decreases), omega (arith, length_step c.args.n c.if-n-lt10.false (omega arith)))
 
-pub put-byte-requires-2 : goal.put-byte-requires-2
-put-byte-requires-2 t c =
-    omega (arith, length_step c.args.n c.if-n-lt10.false (omega arith), c.put-number-last.ensures.end)
+pub put_byte-requires-2 : goal.put_byte-requires-2
+put_byte-requires-2 t c =
+    omega (arith, length_step c.args.n c.if-n-lt10.false (omega arith), c.put_number-last.ensures.end)
 
 pub returns : goal.returns
 returns t c =
@@ -35,10 +35,10 @@ returns t c =
     let at = c.args.at in
     let long = length_step n c.if-n-lt10.false (omega arith) in
     record {
-      end = omega (arith, long, c.put-number-last.ensures.end, c.put-byte-2.ensures.end);
+      end = omega (arith, long, c.put_number-last.ensures.end, c.put_byte-2.ensures.end);
       text =
-          c.put-byte-2.ensures.text
-          ∙ ap (λ (x : List ℕ). overlaid x c.put-number-last.result ((48 + n % 10) ∷ [])) c.put-number-last.ensures.text
-          ∙ overlaid_more m at (decimal (n / 10)) c.put-number-last.result ((48 + n % 10) ∷ []) (omega (arith, long)) c.put-number-last.ensures.end
+          c.put_byte-2.ensures.text
+          ∙ ap (λ (x : List ℕ). overlaid x c.put_number-last.result ((48 + n % 10) ∷ [])) c.put_number-last.ensures.text
+          ∙ overlaid_more m at (decimal (n / 10)) c.put_number-last.result ((48 + n % 10) ∷ []) (omega (arith, long)) c.put_number-last.ensures.end
           ∙ ap (overlaid m at) (sym (decimal_step n c.if-n-lt10.false (omega arith)));
     }

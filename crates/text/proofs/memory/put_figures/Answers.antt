@@ -7,46 +7,46 @@ use Rattle.text.proofs.Commas.{behind, commaed_split, joined_step, room_next, ov
 use Rattle.text.proofs.Overlays.{overlaid_none, overlaid_more}
 use Rattle.text.proofs.memory.put_figures.Goals as goal
 
-pub returns-in-default : goal.returns-in-default
-returns-in-default c =
+pub returns-in_default : goal.returns-in_default
+returns-in_default c =
     let none : c.args.figures.now ≡ [] = nil_from_length c.args.figures.now (omega (arith, ltb-true, ltb-false)) in
     record {
       end = sym (ap (λ ns. c.args.at + length (commaed ns)) none ∙ add-zero c.args.at);
       text = sym (ap (λ ns. overlaid c.args.memory.now c.args.at (commaed ns)) none ∙ overlaid_none c.args.memory.now c.args.at);
     }
 
-pub put-number-end-requires : goal.put-number-end-requires
-put-number-end-requires c =
+pub put_number-end-requires : goal.put_number-end-requires
+put_number-end-requires c =
     let ns = c.args.figures.now in
     let some : 0 < length ns = omega (arith, ltb-true, ltb-false) in
     omega (arith, ap length (commaed_split ns some) ∙ length-append (decimal (get_or ns 0 0)) (flat_map behind (between 1 (length ns) ns)))
 
 pub loop-figure-init : goal.loop-figure-init
-loop-figure-init c = (sym (add-zero c.put-number-end.result), sym (overlaid_none c.put-number-end.new.memory c.put-number-end.result))
+loop-figure-init c = (sym (add-zero c.put_number-end.result), sym (overlaid_none c.put_number-end.new.memory c.put_number-end.result))
 
-pub put-byte-end-requires : goal.put-byte-end-requires
-put-byte-end-requires c =
-    omega (arith, room_next c.args.figures.now c.args.at c.put-number-end.result (length c.args.memory.now) c.loop-figure.figure-index c.requires c.put-number-end.ensures.end c.loop-figure-test.true)
+pub put_byte-end-requires : goal.put_byte-end-requires
+put_byte-end-requires c =
+    omega (arith, room_next c.args.figures.now c.args.at c.put_number-end.result (length c.args.memory.now) c.loop-figure.figure-index c.requires c.put_number-end.ensures.end c.loop-figure-test.true)
 
-pub put-number-end-requires-in-loop-figure : goal.put-number-end-requires-in-loop-figure
-put-number-end-requires-in-loop-figure c =
-    omega (arith, room_next c.args.figures.now c.args.at c.put-number-end.result (length c.args.memory.now) c.loop-figure.figure-index c.requires c.put-number-end.ensures.end c.loop-figure-test.true)
+pub put_number-end-requires-in-loop-figure : goal.put_number-end-requires-in-loop-figure
+put_number-end-requires-in-loop-figure c =
+    omega (arith, room_next c.args.figures.now c.args.at c.put_number-end.result (length c.args.memory.now) c.loop-figure.figure-index c.requires c.put_number-end.ensures.end c.loop-figure-test.true)
 
 pub loop-figure-preserved : goal.loop-figure-preserved
 loop-figure-preserved c =
     let ns = c.args.figures.now in
     let rest = between 1 (length ns) ns in
     let i = c.loop-figure.figure-index in
-    let m = c.put-number-end.new.memory in
-    let at = c.put-number-end.result in
+    let m = c.put_number-end.new.memory in
+    let at = c.put_number-end.result in
     let text = flat_map behind (take i rest) in
     let n = get_or rest i 0 in
     let more = joined_step behind rest i c.loop-figure-test.true in
-    let next = room_next ns c.args.at at (length c.args.memory.now) i c.requires c.put-number-end.ensures.end c.loop-figure-test.true in
+    let next = room_next ns c.args.at at (length c.args.memory.now) i c.requires c.put_number-end.ensures.end c.loop-figure-test.true in
     let room : at + length text < length m = omega arith in (
-      omega (arith, ap length more ∙ length-append text (behind n), c.put-number-end-in-loop-figure.ensures.end, c.put-byte-end.ensures.end),
-      c.put-number-end-in-loop-figure.ensures.text
-          ∙ ap₂ (λ (x : List ℕ) (k : ℕ). overlaid x k (decimal n)) (c.put-byte-end.ensures.text ∙ ap (λ (x : List ℕ). overlaid x c.loop-figure.end (44 ∷ [])) c.loop-figure.invariant.1) c.put-byte-end.ensures.end
+      omega (arith, ap length more ∙ length-append text (behind n), c.put_number-end-in-loop-figure.ensures.end, c.put_byte-end.ensures.end),
+      c.put_number-end-in-loop-figure.ensures.text
+          ∙ ap₂ (λ (x : List ℕ) (k : ℕ). overlaid x k (decimal n)) (c.put_byte-end.ensures.text ∙ ap (λ (x : List ℕ). overlaid x c.loop-figure.end (44 ∷ [])) c.loop-figure.invariant.1) c.put_byte-end.ensures.end
           ∙ overlaid_behind m at text c.loop-figure.end n room c.loop-figure.invariant.0
           ∙ ap (overlaid m at) (sym more),
     )
@@ -57,17 +57,17 @@ returns c =
     let rest = between 1 (length ns) ns in
     let m = c.args.memory.now in
     let at = c.args.at in
-    let end = c.put-number-end.result in
+    let end = c.put_number-end.result in
     let first = decimal (get_or ns 0 0) in
     let some : 0 < length ns = omega (arith, ltb-true, ltb-false) in
     let split = commaed_split ns some in
     let long = ap length split ∙ length-append first (flat_map behind rest) in
     let all = ap (flat_map behind) (take_all c.loop-figure.figure-index rest c.loop-figure-test.false) in
     record {
-      end = omega (arith, long, ap length all, c.loop-figure.invariant.0, c.put-number-end.ensures.end);
+      end = omega (arith, long, ap length all, c.loop-figure.invariant.0, c.put_number-end.ensures.end);
       text =
           c.loop-figure.invariant.1
-          ∙ ap₂ (λ (x y : List ℕ). overlaid x end y) c.put-number-end.ensures.text all
-          ∙ overlaid_more m at first end (flat_map behind rest) (omega (arith, long)) c.put-number-end.ensures.end
+          ∙ ap₂ (λ (x y : List ℕ). overlaid x end y) c.put_number-end.ensures.text all
+          ∙ overlaid_more m at first end (flat_map behind rest) (omega (arith, long)) c.put_number-end.ensures.end
           ∙ ap (overlaid m at) (sym split);
     }

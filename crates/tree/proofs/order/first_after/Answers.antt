@@ -13,13 +13,13 @@ returns-then-used-eq0 g c =
 
 pub returns-then-turn-eq0 : goal.returns-then-turn-eq0
 returns-then-turn-eq0 g c =
-    sym (least_absent g.V.Joining.kind c.args.cells.now c.args.used (length (meaning g.V.Joining.kind c.args.cells.now c.args.used)) c.requires c.args.other.now c.next-cell-turn.result.cell c.next-cell-turn.result.depth c.next-cell-turn.ensures c.if-turn-eq0.true)
+    sym (least_absent g.V.Joining.kind c.args.cells.now c.args.used (length (meaning g.V.Joining.kind c.args.cells.now c.args.used)) c.requires c.args.other.now c.next_cell-turn.result.cell c.next_cell-turn.result.depth c.next_cell-turn.ensures c.if-turn-eq0.true)
 
-pub way-to-way-requires : goal.way-to-way-requires
-way-to-way-requires g c =
-    let t = c.next-cell-turn.ensures.found c.if-turn-eq0.false in
-    let r = c.next-cell-turn.result.cell in
-    let d = c.next-cell-turn.result.depth in
+pub way_to-way-requires : goal.way_to-way-requires
+way_to-way-requires g c =
+    let t = c.next_cell-turn.ensures.found c.if-turn-eq0.false in
+    let r = c.next_cell-turn.result.cell in
+    let d = c.next_cell-turn.result.depth in
     let u = c.args.other.now in
     let n = ap length t.spelled ∙ length_push _ (at (links c.args.cells.now) r).symbol in
     let m = length-take-le d u t.inside in
@@ -31,5 +31,5 @@ way-to-way-requires g c =
 
 pub returns : goal.returns
 returns g c =
-    let w = symbols_of c.first-from.result in
-    sym (least_is g.V.Joining.kind c.args.cells.now c.args.used (length (meaning g.V.Joining.kind c.args.cells.now c.args.used)) c.requires c.args.other.now c.next-cell-turn.result.cell c.next-cell-turn.result.depth w c.next-cell-turn.ensures c.if-turn-eq0.false (subst (λ (s : ℕ). FirstFrom g.V.Joining.kind c.args.cells.now c.args.used s w) c.way-to-way.ensures.cell c.first-from.ensures))
+    let w = symbols_of c.first_from.result in
+    sym (least_is g.V.Joining.kind c.args.cells.now c.args.used (length (meaning g.V.Joining.kind c.args.cells.now c.args.used)) c.requires c.args.other.now c.next_cell-turn.result.cell c.next_cell-turn.result.depth w c.next_cell-turn.ensures c.if-turn-eq0.false (subst (λ (s : ℕ). FirstFrom g.V.Joining.kind c.args.cells.now c.args.used s w) c.way_to-way.ensures.cell c.first_from.ensures))

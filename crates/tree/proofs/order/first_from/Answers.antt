@@ -14,8 +14,8 @@ pub loop-at-init : goal.loop-at-init
 loop-at-init g c =
     (c.requires.inner, c.requires.within, c.requires.written, onward_none g.V.Joining.kind c.args.cells.now c.args.used (length (meaning g.V.Joining.kind c.args.cells.now c.args.used)) c.args.way.cell c.requires.stands)
 
-pub offset-bounds-cells-at-in-loop-at-2 : goal.offset-bounds-cells-at-in-loop-at-2
-offset-bounds-cells-at-in-loop-at-2 g c =
+pub offset_bounds-cells-at-in-loop-at-2 : goal.offset_bounds-cells-at-in-loop-at-2
+offset_bounds-cells-at-in-loop-at-2 g c =
     let cs = c.args.cells.now in
     let d = down_read g.V.Joining.kind cs c.args.used (length (meaning g.V.Joining.kind c.args.cells.now c.args.used)) c.args.way.cell c.requires.stands c.loop-at.at c.loop-at.len c.loop-at.symbols c.index-cells-at.result c.index-cells-at-in-loop-at.result c.loop-at.invariant c.loop-at-test.ensures in
     omega (arith, d.within, c.requires.stands.room)
@@ -52,8 +52,8 @@ loop-at-preserved g c =
     let h : j < length cs = omega (arith, d.within, c.requires.stands.room) in
     (omega (arith, d.rises), d.within, subst (λ (l : Link). Written (spelling_at cs c.args.used j) (c.loop-at.len + 1) (set c.loop-at.symbols c.loop-at.len l.symbol)) (sym (read cs j c.index-cells-at-in-loop-at-2.result h)) d.written, d.onward)
 
-pub invariant-of-result : goal.invariant-of-result
-invariant-of-result g c =
+pub invariant_of-result : goal.invariant_of-result
+invariant_of-result g c =
     let K = g.V.Joining.kind in
     let cs = c.args.cells.now in
     let p = c.loop-at.at in

@@ -7,8 +7,8 @@ use Rattle.words.specs.Grammar.{Judged}
 use Rattle.words.proofs.Reading.{At, at_start, at_same, turn_letter, turn_mark, fault_is, refused_at, end_len, end_letters, end_rest, end_low, end_even, end_full, end_spells}
 use Rattle.words.proofs.Judging.{judged}
 use Rattle.words.proofs.line.read_line.Goals as goal
-use Rattle.words.proofs.line.read_line.Goals.{in-Letter+else-len-ge-LONGEST, in-Mark+else-not-after-letter+else-column-bytes}
-use Rattle.words.proofs.line.read_line.Goals.{then-not-after-letter-via-then-not-after-letter, then-not-after-letter-via-else-not-after-letter+then-column-bytes}
+use Rattle.words.proofs.line.read_line.Goals.{in-Letter+else-len-ge-LONGEST, in-Mark+else-not-after_letter+else-column-bytes}
+use Rattle.words.proofs.line.read_line.Goals.{then-not-after_letter-via-then-not-after_letter, then-not-after_letter-via-else-not-after_letter+then-column-bytes}
 
 -- what is read is judged rightly
 both : (number : ℕ) (line : List ℕ) (r : Reading) → r ≡ reading number line → Judged number line r
@@ -18,9 +18,9 @@ empty : (number : ℕ) (line : List ℕ) → line ≡ [] → blank ≡ reading n
 unfolding reading
 empty number line e = ap (reading number) (sym e)
 
-pub returns-then-is-empty : goal.returns-then-is-empty
-returns-then-is-empty c =
-    let e : c.args.bytes.now ≡ [] = nil_from_length c.args.bytes.now (eqb-true _ 0 (sym c.is_empty.ensures ∙ c.if-is-empty.true)) in
+pub returns-then-is_empty : goal.returns-then-is_empty
+returns-then-is_empty c =
+    let e : c.args.bytes.now ≡ [] = nil_from_length c.args.bytes.now (eqb-true _ 0 (sym c.is_empty.ensures ∙ c.if-is_empty.true)) in
     record { value = empty c.args.line c.args.bytes.now e; meaning = e }
 
 pub loop-i-init : goal.loop-i-init
@@ -32,7 +32,7 @@ returns-then-len-ge-LONGEST c =
     let i = c.loop-i.i in
     let at = c.loop-i.invariant in
     let v = refused_at c.args.line bs i 7 c.loop-i-test.true at.clean
-    (fault_is bs i (Letter c.in-Letter.symbol) c.loop-i.after-letter (sym c.in-Letter.ensures) at.follows ∙ cond-false _ 0 8 (le-ltb _ 48 (omega arith))) in
+    (fault_is bs i (Letter c.in-Letter.symbol) c.loop-i.after_letter (sym c.in-Letter.ensures) at.follows ∙ cond-false _ 0 8 (le-ltb _ 48 (omega arith))) in
     record { value = v; meaning = both c.args.line bs _ v }
 
 -- a mark that does not come after a letter, or is last
@@ -43,28 +43,28 @@ last_mark : (a last : Bool) → last ≡ true → ◌≡◌ {A = ℕ} (cond a (c
 last_mark true last e = ap (λ (x : Bool). cond {A = ℕ} x 7 0) e
 last_mark false last e = refl
 
-pub returns-then-not-after-letter : goal.returns-then-not-after-letter
-returns-then-not-after-letter c =
+pub returns-then-not-after_letter : goal.returns-then-not-after_letter
+returns-then-not-after_letter c =
     let bs = c.args.bytes.now in
     let i = c.loop-i.i in
     let at = c.loop-i.invariant in
-    let k = fault_is bs i (Mark c.in-Mark.hyphen) c.loop-i.after-letter (sym c.in-Mark.ensures) at.follows in
+    let k = fault_is bs i (Mark c.in-Mark.hyphen) c.loop-i.after_letter (sym c.in-Mark.ensures) at.follows in
     let v = refused_at c.args.line bs i 6 c.loop-i-test.true at.clean
-    (k ∙ elim c.then-not-after-letter.branch [
-      | then-not-after-letter-via-then-not-after-letter w ↦ bad_mark _ _ w.if-not-after-letter.true
-      | then-not-after-letter-via-else-not-after-letter+then-column-bytes w ↦ last_mark _ _ (le-leb _ _ w.if-column-bytes.true)
+    (k ∙ elim c.then-not-after_letter.branch [
+      | then-not-after_letter-via-then-not-after_letter w ↦ bad_mark _ _ w.if-not-after_letter.true
+      | then-not-after_letter-via-else-not-after_letter+then-column-bytes w ↦ last_mark _ _ (le-leb _ _ w.if-column-bytes.true)
     ]) in
     record { value = v; meaning = both c.args.line bs _ v }
 
-pub mark-bit-marks-requires : goal.mark-bit-marks-requires
-mark-bit-marks-requires c = omega (arith, c.loop-i.invariant.room)
+pub mark_bit-marks-requires : goal.mark_bit-marks-requires
+mark_bit-marks-requires c = omega (arith, c.loop-i.invariant.room)
 
 pub returns-in-Other : goal.returns-in-Other
 returns-in-Other c =
     let bs = c.args.bytes.now in
     let i = c.loop-i.i in
     let at = c.loop-i.invariant in
-    let v = refused_at c.args.line bs i 5 c.loop-i-test.true at.clean (fault_is bs i Other c.loop-i.after-letter (sym c.in-Other.ensures) at.follows) in
+    let v = refused_at c.args.line bs i 5 c.loop-i-test.true at.clean (fault_is bs i Other c.loop-i.after_letter (sym c.in-Other.ensures) at.follows) in
     record { value = v; meaning = both c.args.line bs _ v }
 
 pub loop-i-preserved : goal.loop-i-preserved
@@ -74,28 +74,28 @@ loop-i-preserved c =
     let L = c.loop-i.letters in
     let n = c.loop-i.len in
     let m = c.loop-i.marks in
-    let a = c.loop-i.after-letter in
+    let a = c.loop-i.after_letter in
     let at = c.loop-i.invariant in
     elim c.match-classify.branch [
-      | in-Letter+else-len-ge-LONGEST w ↦ at_same bs (i + 1) _ _ _ _ _ _ _ _ w.letters-is w.len-is w.marks-is w.after-letter-is (turn_letter bs i L n m a at w.in-Letter.symbol (sym c.classify.ensures ∙ w.in-Letter.is) w.if-len-ge-LONGEST.false)
-      | in-Mark+else-not-after-letter+else-column-bytes w ↦ at_same bs (i + 1) _ _ _ _ _ _ _ _ w.letters-is w.len-is w.marks-is w.after-letter-is (turn_mark bs i L n m a at w.in-Mark.hyphen (sym c.classify.ensures ∙ w.in-Mark.is) w.if-not-after-letter.false w.if-column-bytes.false w.mark-bit-marks.result w.mark-bit-marks.ensures)
+      | in-Letter+else-len-ge-LONGEST w ↦ at_same bs (i + 1) _ _ _ _ _ _ _ _ w.letters-is w.len-is w.marks-is w.after_letter-is (turn_letter bs i L n m a at w.in-Letter.symbol (sym c.classify.ensures ∙ w.in-Letter.is) w.if-len-ge-LONGEST.false)
+      | in-Mark+else-not-after_letter+else-column-bytes w ↦ at_same bs (i + 1) _ _ _ _ _ _ _ _ w.letters-is w.len-is w.marks-is w.after_letter-is (turn_mark bs i L n m a at w.in-Mark.hyphen (sym c.classify.ensures ∙ w.in-Mark.is) w.if-not-after_letter.false w.if-column-bytes.false w.mark_bit-marks.result w.mark_bit-marks.ensures)
     ]
 
 -- a line that is not empty
 some : (n : ℕ) (b : Bool) → b ≡ eqb n 0 → b ≡ false → 0 < n
 some n b e f = let ne : n ≡ 0 → ⊥ = eqb-false n 0 (sym e ∙ f) in omega arith
 
-pub invariant-of-result : goal.invariant-of-result
-invariant-of-result c =
+pub invariant_of-result : goal.invariant_of-result
+invariant_of-result c =
     let bs = c.args.bytes.now in
     let i = c.loop-i.i in
     let L = c.loop-i.letters in
     let n = c.loop-i.len in
     let m = c.loop-i.marks in
-    let a = c.loop-i.after-letter in
+    let a = c.loop-i.after_letter in
     let at = c.loop-i.invariant in
     let all : i ≡ length bs = omega arith in
-    let len = some (length bs) c.is_empty.result c.is_empty.ensures c.if-is-empty.false in (
+    let len = some (length bs) c.is_empty.result c.is_empty.ensures c.if-is_empty.false in (
       end_full bs i L n m a at all len,
       (
         (end_len bs i L n m a at all len, at.room),
@@ -113,6 +113,6 @@ pub returns : goal.returns
 returns c =
     let bs = c.args.bytes.now in
     let all : c.loop-i.i ≡ length bs = omega arith in
-    let len = some (length bs) c.is_empty.result c.is_empty.ensures c.if-is-empty.false in
-    let v = end_spells bs c.loop-i.i c.loop-i.letters c.loop-i.len c.loop-i.marks c.loop-i.after-letter c.loop-i.invariant all len c.args.line in
+    let len = some (length bs) c.is_empty.result c.is_empty.ensures c.if-is_empty.false in
+    let v = end_spells bs c.loop-i.i c.loop-i.letters c.loop-i.len c.loop-i.marks c.loop-i.after_letter c.loop-i.invariant all len c.args.line in
     record { value = v; meaning = both c.args.line bs _ v }

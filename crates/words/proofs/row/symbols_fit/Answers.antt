@@ -8,4 +8,4 @@ unfolding symbols_ok
 loop-i-init c = refl
 
 pub loop-i-preserved : goal.loop-i-preserved
-loop-i-preserved c = ap₂ ◌&&◌ c.loop-i.invariant c.symbol-fits-fit.ensures ∙ sym (symbols_more c.args.len c.args.letters.now c.loop-i.i)
+loop-i-preserved c = ap₂ ◌&&◌ c.loop-i.invariant c.symbol_fits-fit.ensures ∙ sym (symbols_more c.args.len c.args.letters.now c.loop-i.i)

@@ -4,7 +4,7 @@ use Rattle.patterns.specs.declared.pattern.Row.{Row}
 use Rattle.patterns.specs.Views.{symbols_of}
 use Rattle.books.proofs.Ruling.{parts_more, part_joined, part_none, parts_all}
 use Rattle.books.proofs.book.ReadingBook.row_at.Goals as goal
-use Rattle.books.proofs.book.ReadingBook.row_at.Goals.{in-Some, in-default}
+use Rattle.books.proofs.book.ReadingBook.row_at.Goals.{in-Some, in_default}
 
 pub loop-len-preserved : goal.loop-len-preserved
 loop-len-preserved g c =
@@ -13,16 +13,16 @@ loop-len-preserved g c =
     let s = c.args.start in
     let m = c.loop-len.len in
     let old = c.loop-len.row.values in
-    let new = c.match-of-part.row.values in
+    let new = c.match-of_part.row.values in
     parts_more b w s m old new c.loop-len.auto.len
-    (elim c.match-of-part.branch [
+    (elim c.match-of_part.branch [
       | in-Some v ↦ λ k.
           ap (λ (r : Row). get_or r.values k 0) v.row-is
           ∙ ap (λ (r : List ℕ). get_or r k 0) v.greater-row.ensures
           ∙ part_joined b w s m old v.row.result.values (symbols_of v.in-Some.part) v.in-Some.ensures.0 v.in-Some.ensures.1 v.row.ensures k
-      | in-default v ↦ λ k.
+      | in_default v ↦ λ k.
           ap (λ (r : Row). get_or r.values k 0) v.row-is
-          ∙ part_none b w s m old v.in-default.ensures k
+          ∙ part_none b w s m old v.in_default.ensures k
     ])
     c.loop-len.invariant
 

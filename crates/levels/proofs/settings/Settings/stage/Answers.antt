@@ -13,7 +13,7 @@ pub returns-then-before-length : goal.returns-then-before-length
 returns-then-before-length c =
     let s = c.args.self.now in
     record {
-      pass = ap (λ (k : ℕ). passed c.loop-length.length k) c.place-after.ensures.place
+      pass = ap (λ (k : ℕ). passed c.loop-length.length k) c.place_after.ensures.place
           ∙ sym (pass_here c.loop-length.length s.hi c.loop-length.before (omega arith) (omega arith) (omega arith))
           ∙ c.loop-length.invariant;
       order = order_of_passes;

@@ -3,5 +3,5 @@ use Rattle.makes.specs.TreeBooks.{Bounded}
 use Rattle.makes.proofs.Booked.{none_bounded}
 use Rattle.makes.proofs.booking.TreeBookWritingBook.empty.Goals as goal
 
-pub invariant-of-self : goal.invariant-of-self
-invariant-of-self c = (∣ c.empty.ensures.stands ∣₁, (subst Bounded (sym c.empty.ensures.none) none_bounded, tt))
+pub invariant_of-self : goal.invariant_of-self
+invariant_of-self c = (∣ c.empty.ensures.stands ∣₁, (subst Bounded (sym c.empty.ensures.none) none_bounded, tt))

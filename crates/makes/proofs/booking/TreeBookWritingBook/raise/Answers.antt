@@ -30,8 +30,8 @@ bounded t t' u r s z b (Err full) j = subst Bounded (sym (leads_kept row_kind t 
 pub join-requires : goal.join-requires
 join-requires c = upright row_kind c.args.self.now.tree c.args.self.now.stands
 
-pub invariant-of-self : goal.invariant-of-self
-invariant-of-self c =
+pub invariant_of-self : goal.invariant_of-self
+invariant_of-self c =
     let t = c.args.self.now.tree in
     let t' = c.join.new.self in
     let p = c.args.pattern.now in

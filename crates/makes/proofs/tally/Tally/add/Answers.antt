@@ -17,8 +17,8 @@ adding t t' u v s (Err full) j = (j.0, leads_kept counts_kind t t' u v s full j)
 pub join-requires : goal.join-requires
 join-requires c = upright counts_kind c.args.self.now.tree c.args.self.now.stands
 
-pub invariant-of-self : goal.invariant-of-self
-invariant-of-self c =
+pub invariant_of-self : goal.invariant_of-self
+invariant_of-self c =
     let t = c.args.self.now.tree in
     (∣ leads_upright counts_kind t c.join.new.self (symbols_of c.args.spelling.now) c.args.counts (upright counts_kind t c.args.self.now.stands) c.join.result c.join.ensures ∣₁, tt)
 

@@ -3,5 +3,5 @@ use Rattle.makes.specs.TreeBooks.{Bounded}
 use Rattle.makes.proofs.Booked.{none_bounded}
 use Rattle.makes.proofs.treebook.TreeBook.new.Goals as goal
 
-pub invariant-of-result : goal.invariant-of-result
-invariant-of-result c = (∣ c.new-tree.ensures.stands ∣₁, (subst Bounded (sym c.new-tree.ensures.none) none_bounded, tt))
+pub invariant_of-result : goal.invariant_of-result
+invariant_of-result c = (∣ c.new-tree.ensures.stands ∣₁, (subst Bounded (sym c.new-tree.ensures.none) none_bounded, tt))

@@ -5,7 +5,7 @@ use Rattle.patterns.specs.declared.pattern.Spelling.{Spelling}
 use Rattle.patterns.specs.Spellings.{places, any_above_zero, fits_row}
 use Rattle.patterns.specs.Views.{symbols_of}
 use Rattle.patterns.proofs.pattern.Pattern.new.Goals as goal
-use Rattle.patterns.proofs.pattern.Pattern.new.Goals.{then-not-any-above-via-then-not-any-above, then-not-any-above-via-else-not-any-above+then-any-above}
+use Rattle.patterns.proofs.pattern.Pattern.new.Goals.{then-not-any_above-via-then-not-any_above, then-not-any_above-via-else-not-any_above+then-any_above}
 
 -- the places beyond the last one, as the code cuts them off
 beyond : (s : Spelling) (values : List ℕ) → length values ≡ places → any_above_zero (take (places - (s.len + 1)) (drop (s.len + 1) values)) ≡ any_above_zero (drop (suc (length (symbols_of s))) values)
@@ -21,22 +21,22 @@ none_above (zero ∷ xs) e zero = refl
 none_above (zero ∷ xs) e (suc k) = none_above xs e k
 none_above (suc x ∷ xs) e k = absurd (true≢false e)
 
-pub returns-then-not-any-above : goal.returns-then-not-any-above
-returns-then-not-any-above c =
+pub returns-then-not-any_above : goal.returns-then-not-any_above
+returns-then-not-any_above c =
     let s = c.args.spelling in
     let vs = c.args.row.values in
-    elim c.then-not-any-above.branch [
-      | then-not-any-above-via-then-not-any-above w ↦ and_left (any_above_zero vs) _ (sym w.if-not-any-above.ensures)
-      | then-not-any-above-via-else-not-any-above+then-any-above w ↦ and_right (any_above_zero vs) _ (ap not (sym (beyond s vs c.args.row.full) ∙ sym w.if-any-above.ensures))
+    elim c.then-not-any_above.branch [
+      | then-not-any_above-via-then-not-any_above w ↦ and_left (any_above_zero vs) _ (sym w.if-not-any_above.ensures)
+      | then-not-any_above-via-else-not-any_above+then-any_above w ↦ and_right (any_above_zero vs) _ (ap not (sym (beyond s vs c.args.row.full) ∙ sym w.if-any_above.ensures))
     ]
 
-pub invariant-of-result : goal.invariant-of-result
-invariant-of-result c =
+pub invariant_of-result : goal.invariant_of-result
+invariant_of-result c =
     let s = c.args.spelling in
     let vs = c.args.row.values in
-    let z = none_above (drop (suc (length (symbols_of s))) vs) (sym (beyond s vs c.args.row.full) ∙ sym c.if-any-above.ensures) in
+    let z = none_above (drop (suc (length (symbols_of s))) vs) (sym (beyond s vs c.args.row.full) ∙ sym c.if-any_above.ensures) in
     let n : length (symbols_of s) ≡ s.len = length-take-le s.len s.symbols (omega (arith, s.full, s.sized)) in (
-      sym c.if-not-any-above.ensures,
+      sym c.if-not-any_above.ensures,
       (
         (λ k h.
             let e : suc (length (symbols_of s)) + (k - suc s.len) ≡ k = omega arith in
@@ -49,4 +49,4 @@ pub returns : goal.returns
 returns c =
     let s = c.args.spelling in
     let vs = c.args.row.values in
-    (and_from (any_above_zero vs) _ (sym c.if-not-any-above.ensures) (ap not (sym (beyond s vs c.args.row.full) ∙ sym c.if-any-above.ensures)), refl)
+    (and_from (any_above_zero vs) _ (sym c.if-not-any_above.ensures) (ap not (sym (beyond s vs c.args.row.full) ∙ sym c.if-any_above.ensures)), refl)

@@ -15,26 +15,26 @@ symbolic w s m xs c k =
 edged : (w : Word) (s m : ℕ) (xs : List ℕ) → s + m ≤ w.len + 2 → Cut w s m xs → (k : ℕ) → 0 < k → suc k < m → 0 < get_or xs k 0
 edged w s m xs l c k a b = let e = c.here k (omega arith) in omega (arith, padded_inner w (s + k) (omega arith) (omega arith))
 
-pub returns-then-not-any-above : goal.returns-then-not-any-above
-returns-then-not-any-above c =
-    spelling_is c.args.word.now c.args.start c.args.len c.symbols-from-symbols.result false (omega arith) (omega arith) (omega arith)
-    (record { full = c.symbols-from-symbols.ensures.full; here = c.symbols-from-symbols.ensures.symbols; unused = c.symbols-from-symbols.ensures.unused })
-    c.if-not-any-above.ensures
+pub returns-then-not-any_above : goal.returns-then-not-any_above
+returns-then-not-any_above c =
+    spelling_is c.args.word.now c.args.start c.args.len c.symbols_from-symbols.result false (omega arith) (omega arith) (omega arith)
+    (record { full = c.symbols_from-symbols.ensures.full; here = c.symbols_from-symbols.ensures.symbols; unused = c.symbols_from-symbols.ensures.unused })
+    c.if-not-any_above.ensures
 
-pub invariant-of-result : goal.invariant-of-result
-invariant-of-result c =
+pub invariant_of-result : goal.invariant_of-result
+invariant_of-result c =
     let w = c.args.word.now in
     let s = c.args.start in
     let m = c.args.len in
-    let xs = c.symbols-from-symbols.result in
-    let cut : Cut w s m xs = record { full = c.symbols-from-symbols.ensures.full; here = c.symbols-from-symbols.ensures.symbols; unused = c.symbols-from-symbols.ensures.unused } in
-    (cut.full, ((omega arith, omega arith), (symbolic w s m xs cut, (cut.unused, (edged w s m xs (omega arith) cut, (sym c.if-not-any-above.ensures, tt))))))
+    let xs = c.symbols_from-symbols.result in
+    let cut : Cut w s m xs = record { full = c.symbols_from-symbols.ensures.full; here = c.symbols_from-symbols.ensures.symbols; unused = c.symbols_from-symbols.ensures.unused } in
+    (cut.full, ((omega arith, omega arith), (symbolic w s m xs cut, (cut.unused, (edged w s m xs (omega arith) cut, (sym c.if-not-any_above.ensures, tt))))))
 
 pub returns : goal.returns
 returns c =
     let w = c.args.word.now in
     let s = c.args.start in
     let m = c.args.len in
-    let xs = c.symbols-from-symbols.result in
-    let cut : Cut w s m xs = record { full = c.symbols-from-symbols.ensures.full; here = c.symbols-from-symbols.ensures.symbols; unused = c.symbols-from-symbols.ensures.unused } in
-    (spelling_is w s m xs true (omega arith) (omega arith) (omega arith) cut c.if-not-any-above.ensures, cut_part w s m xs (omega arith) (omega arith) cut)
+    let xs = c.symbols_from-symbols.result in
+    let cut : Cut w s m xs = record { full = c.symbols_from-symbols.ensures.full; here = c.symbols_from-symbols.ensures.symbols; unused = c.symbols_from-symbols.ensures.unused } in
+    (spelling_is w s m xs true (omega arith) (omega arith) (omega arith) cut c.if-not-any_above.ensures, cut_part w s m xs (omega arith) (omega arith) cut)

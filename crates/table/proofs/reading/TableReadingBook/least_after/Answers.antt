@@ -13,7 +13,7 @@ returns-in-Ok c =
     let b = held_by t in
     let i = c.in-Ok.at in
     let f = c.in-Ok.ensures in
-    c.first-spelling.ensures
+    c.first_spelling.ensures
     ∙ ap (λ (x : Book). least_of x) (rest_held t (i + 1) (omega (arith, f.within)) ∙ sym (after_held b (symbols_of c.args.other.now) i f.place))
 
 pub returns-in-Err : goal.returns-in-Err
@@ -22,5 +22,5 @@ returns-in-Err c =
     let b = held_by t in
     let i = c.in-Err.at in
     let f = c.in-Err.ensures in
-    c.first-spelling-in-Err.ensures
+    c.first_spelling-in-Err.ensures
     ∙ ap (λ (x : Book). least_of x) (rest_held t i f.within ∙ sym (after_other b (symbols_of c.args.other.now) i f.place))

@@ -18,8 +18,8 @@ bounds-self-k c = omega (arith, long c.args.self.now.rows.now c.loop-k.self.rows
 pub bounds-self-k-in-loop-k : goal.bounds-self-k-in-loop-k
 bounds-self-k-in-loop-k c = omega (arith, long c.args.self.now.rows.now c.loop-k.self.rows.now c.args.self.now.used c.loop-k.k c.requires.1 c.loop-k.auto.k c.loop-k.invariant.2)
 
-pub invariant-of-self-in-loop-k : goal.invariant-of-self-in-loop-k
-invariant-of-self-in-loop-k c =
+pub invariant_of-self-in-loop-k : goal.invariant_of-self-in-loop-k
+invariant_of-self-in-loop-k c =
     let t = c.loop-k.self in
     let p = get_or t.rows.now (c.loop-k.k - 1) c.index-self-k.result in
     let e = length-set t.rows.now (c.loop-k.k - 1 + 1) p in

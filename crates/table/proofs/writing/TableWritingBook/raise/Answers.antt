@@ -13,8 +13,8 @@ joined-requires c =
     let f = c.in-Ok.ensures in
     same_spelling t c.args.pattern.now c.in-Ok.at c.index-self-at.result f.within f.place
 
-pub invariant-of-self : goal.invariant-of-self
-invariant-of-self c =
+pub invariant_of-self : goal.invariant_of-self
+invariant_of-self c =
     let t = c.args.self.now in
     let f = c.in-Ok.ensures in
     let n = length-set t.rows.now c.in-Ok.at c.joined.result in (
@@ -48,25 +48,25 @@ pub bounds-self-at-in-Err : goal.bounds-self-at-in-Err
 bounds-self-at-in-Err c =
     let t = c.args.self.now in
     let f = c.in-Err.ensures in
-    let e = ap (λ (x : List Pattern). length x) c.make-room.ensures.rows ∙ opened_length t.rows.now t.used c.if-used-self.false c.in-Err.at f.within in
+    let e = ap (λ (x : List Pattern). length x) c.make_room.ensures.rows ∙ opened_length t.rows.now t.used c.if-used-self.false c.in-Err.at f.within in
     omega (arith, f.within)
 
-pub invariant-of-self-in-Err : goal.invariant-of-self-in-Err
-invariant-of-self-in-Err c =
+pub invariant_of-self-in-Err : goal.invariant_of-self-in-Err
+invariant_of-self-in-Err c =
     let t = c.args.self.now in
     let f = c.in-Err.ensures in
-    let new = c.make-room.new.self.rows.now in
-    let e = put_length t c.args.pattern.now c.in-Err.at f.within f.place c.if-used-self.false new c.make-room.ensures.rows in (
+    let new = c.make_room.new.self.rows.now in
+    let e = put_length t c.args.pattern.now c.in-Err.at f.within f.place c.if-used-self.false new c.make_room.ensures.rows in (
       omega arith,
-      (put_order t c.args.pattern.now c.in-Err.at f.within f.place c.if-used-self.false new c.make-room.ensures.rows, tt),
+      (put_order t c.args.pattern.now c.in-Err.at f.within f.place c.if-used-self.false new c.make_room.ensures.rows, tt),
     )
 
 pub returns-else-used-self : goal.returns-else-used-self
 returns-else-used-self c =
     let t = c.args.self.now in
     let f = c.in-Err.ensures in
-    let new = c.make-room.new.self.rows.now in
-    let e = c.make-room.ensures.rows in
+    let new = c.make_room.new.self.rows.now in
+    let e = c.make_room.ensures.rows in
     record {
       limit = put_length t c.args.pattern.now c.in-Err.at f.within f.place c.if-used-self.false new e;
       held = put_raised t c.args.pattern.now c.in-Err.at f.within f.place c.if-used-self.false new e;

@@ -12,8 +12,8 @@ pub returns : goal.returns
 returns c =
     let t = c.args.self.now.text.now in
     let a = c.args.self.now.pos in
-    let b = c.line-end-end.result in
-    let e = c.line-end-end.ensures in
+    let b = c.line_end-end.result in
+    let e = c.line_end-end.ensures in
     let line = take (b - a) (drop a t) in
     let begins : Begins (drop a t) line (drop c.if-end-text.self t) =
     elim c.if-end-text.branch [

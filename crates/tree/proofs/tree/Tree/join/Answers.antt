@@ -3,8 +3,8 @@ use Rattle.tree.specs.Rules.{Ruled}
 use Rattle.tree.proofs.Spelt.{spelling_ruled, spelling_some}
 use Rattle.tree.proofs.tree.Tree.join.Goals as goal
 
-pub join-in-requires : goal.join-in-requires
-join-in-requires g c =
+pub join_in-requires : goal.join_in-requires
+join_in-requires g c =
     let s = c.args.spelling.now in
     let e : s.len ≡ s.len - 0 = omega arith in
     record {

@@ -5,8 +5,8 @@ use Rattle.words.specs.Words.{bits_of}
 use Rattle.words.proofs.Bits.{bits_numbers}
 use Rattle.words.proofs.word.Word.mask.Goals as goal
 
-pub overflow-sub-result-2 : goal.overflow-sub-result-2
-overflow-sub-result-2 c =
+pub overflow_sub-result-2 : goal.overflow_sub-result-2
+overflow_sub-result-2 c =
     let l : c.args.bounds.left < 64 = omega arith in
     let h : c.args.self.now.len + 1 - c.args.bounds.right < 64 = omega arith in
     let o : c.args.bounds.left ≤ c.args.self.now.len + 1 - c.args.bounds.right = omega arith in
