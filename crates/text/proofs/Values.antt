@@ -3,7 +3,7 @@ use Rattle.std.proofs.Common.{◌≡◌, ℕ, suc, ◌+◌, ◌-◌, ◌*◌, �
 use native.Mathlib.Nat.{pow-le-pow_right}
 use lib.Dec.{eqb-suc-suc}
 use Rattle.std.specs.Str.Parse.{digits_value, digits_value_after}
-use Rattle.std.specs.Char.{is_ascii_digit, digit_value as digitValue}
+use Rattle.std.specs.Char.{is_ascii_digit, digit_value as value_of_digit}
 use Rattle.std.specs.Str.{all_ascii_digits}
 use Rattle.std.proofs.lemmas.List.{at_drop_more, at_drop_all}
 use Rattle.std.proofs.lemmas.Bool.{and_parts, and_right, leb-true, le-leb, le-ltb, lt-ltb, ne_eqb, cond-true, cond-false}
@@ -16,7 +16,7 @@ digit_bounds b d =
     (leb-true 48 b both.0, leb-true b 57 both.1)
 
 -- what a decimal digit stands for
-digit_value : (b : ℕ) → is_ascii_digit b ≡ true → digitValue b ≡ b - 48
+digit_value : (b : ℕ) → is_ascii_digit b ≡ true → value_of_digit b ≡ b - 48
 digit_value b d =
     let h = digit_bounds b d in
     cond-false _ _ _ (le-ltb b 48 h.0) ∙ cond-true _ _ _ (lt-ltb b 58 (omega arith))

@@ -6,7 +6,7 @@ use Rattle.words.specs.Words.{Headword, hyphen, positions, bits_of}
 use Rattle.words.specs.Views.{headword}
 use Rattle.words.proofs.Bits.{ones_mask}
 use Rattle.patterns.proofs.Cutting.{letters_length}
-use Rattle.kinds.specs.Kinds.{given as isGiven}
+use Rattle.kinds.specs.Kinds.{given as is_given}
 use Rattle.kinds.proofs.Masks.{kept, ones_kept, ones_both, ones_apart, count_apart, count_without}
 use Rattle.kinds.proofs.kind.count_kinds.Goals as goal
 
@@ -39,5 +39,5 @@ returns g c =
     let h = bit_and w.marks c.mask.result in
     let e : h ≡ bit_and w.marks (bits_of (numbers l n)) = ap (bit_and w.marks) (c.mask.ensures ∙ ap (λ (x : ℕ). bits_of (numbers l x)) k) in
     let o : h < 2 ^ 64 = omega (arith, and_le_l w.marks c.mask.result) in
-    let t = masks (headword w) (isGiven b (headword w)) n l h c.given_in-given.result e c.given_in-given.ensures o (omega arith) in
+    let t = masks (headword w) (is_given b (headword w)) n l h c.given_in-given.result e c.given_in-given.ensures o (omega arith) in
     record { found = t.0; wrong = t.1; missed = t.2 }

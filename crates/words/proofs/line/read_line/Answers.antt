@@ -95,19 +95,7 @@ invariant_of-result c =
     let a = c.loop-i.after_letter in
     let at = c.loop-i.invariant in
     let all : i ≡ length bs = omega arith in
-    let len = some (length bs) c.is_empty.result c.is_empty.ensures c.if-is_empty.false in (
-      end_full bs i L n m a at all len,
-      (
-        (end_len bs i L n m a at all len, at.room),
-        (
-          end_letters bs i L n m a at all len,
-          (
-            end_rest bs i L n m a at all len,
-            ((end_low bs i L n m a at all len, end_even bs i L n m a at all len), tt),
-          ),
-        ),
-      ),
-    )
+    let len = some (length bs) c.is_empty.result c.is_empty.ensures c.if-is_empty.false in record { full = end_full bs i L n m a at all len; sized = (end_len bs i L n m a at all len, at.room); lettered = end_letters bs i L n m a at all len; unused = end_rest bs i L n m a at all len; marked = (end_low bs i L n m a at all len, end_even bs i L n m a at all len) }
 
 pub returns : goal.returns
 returns c =

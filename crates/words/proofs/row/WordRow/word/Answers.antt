@@ -12,7 +12,7 @@ invariant_of-result c =
     let row = c.args.self.now in
     let m = makes_word row (sym c.if-not-makes_word.ensures.value) in
     let full = c.makes_word.ensures.full c.if-not-makes_word.false in
-    (full, ((m.some, m.few), (m.letters, (unused_all row m full, ((m.below, m.even), tt)))))
+    record { full = full; sized = (m.some, m.few); lettered = m.letters; unused = unused_all row m full; marked = (m.below, m.even) }
 
 pub returns : goal.returns
 returns c =
