@@ -1,6 +1,7 @@
 //! Runs many sheets from standard input. Each begins with a line `= what it shows`, and ends before the line feed in
 //! front of the next such line, or with the input. Every case is answered by its first line and the run's line.
 #![tactic(auto)]
+
 ghost use Rattle.std.specs.Prelude.{ℕ, ◌<◌, ◌≤◌, length, Decides};
 ghost use Rattle.cases.specs.Parted.{CaseAt};
 

@@ -1,5 +1,6 @@
 //! Checks a word list of any size: `listcheck left,right FILE`.
 #![tactic(auto)]
+
 ghost use Rattle.std.specs.Prelude.{◌≡◌, IfOk, slice_index};
 ghost use Rattle.sheet.specs.Sheets.{figures_in};
 

@@ -1,5 +1,6 @@
 //! The program: reads a sheet from standard input, and writes what the run on it answers.
 #![tactic(auto)]
+
 ghost use Rattle.std.specs.Prelude.{◌≤◌, length, IfOk};
 
 use anyhow::anyhow;

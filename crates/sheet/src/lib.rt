@@ -1,5 +1,6 @@
 //! The sheet that the program reads, and the lines that it writes, as calls on bytes.
 #![tactic(auto)]
+
 pub mod fault;
 pub mod reading;
 pub mod writing;

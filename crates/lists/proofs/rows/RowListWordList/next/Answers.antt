@@ -15,4 +15,4 @@ invariant_of-self c =
     let all = rows_from n (drop n rows) in
     let rest = rows_from (n + 1) (drop (n + 1) rows) in
     let p = word_taken (row_words rows) (row_ending rows) n all rest c.in_ok-word.word (sym c.is_some.ensures ∙ c.if-is_some.true) c.in_ok-word.ensures l.left l.ends in
-    (p.0, (p.1, (p.2, tt)))
+    record { some = p.0; left = p.1; ends = p.2 }

@@ -18,4 +18,4 @@ invariant_of-self c =
     let rest = content_from (c.next_word.new.lines.number + 1) (n + 1) (lines_of (unread c.next_word.new.lines)) in
     let p = word_taken (text_words t) (text_ending t) n all rest c.in_ok-word.word (sym c.is_some.ensures ∙ c.if-is_some.true) c.in_ok-word.ensures.gives l.left l.ends in
     let q = subst (λ (x : List ℕ). (n + 1 ≤ length (text_words x)) × (drop (n + 1) (text_words x) ≡ rest.0) × (text_ending x ≡ rest.1)) (sym c.next_word.ensures.text) p in
-    (q.0, (q.1, (q.2, tt)))
+    record { some = q.0; left = q.1; ends = q.2 }
