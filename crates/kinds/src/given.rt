@@ -9,7 +9,7 @@ use words::word::{Bounds, Word};
 
 /// The positions within bounds that the book gives, as bits like those of the marks.
 pub fn given_in<B: ReadingBook>(book: &B, word: &Word, bounds: Bounds) -> u64
-    ensures { result ≡ given_bits bounds.left bounds.right (held book.now) (headword word.now) }
+    ensures { result ≡ given_bits bounds.left bounds.right (B.held book.now) (headword word.now) }
 {
     let values = values_of(book, word);
     let mut given = 0;

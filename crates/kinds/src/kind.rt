@@ -21,9 +21,9 @@ pub struct KindCounts {
 
 /// Counts the kinds of a word's positions within bounds.
 pub fn count_kinds<B: ReadingBook>(book: &B, word: &Word, bounds: Bounds) -> KindCounts
-    ensures found { result.found ≡ count (found (held book.now) (headword word.now)) (within bounds.left bounds.right (headword word.now)) }
-    ensures wrong { result.wrong ≡ count (wrong (held book.now) (headword word.now)) (within bounds.left bounds.right (headword word.now)) }
-    ensures missed { result.missed ≡ count (missed (held book.now) (headword word.now)) (within bounds.left bounds.right (headword word.now)) }
+    ensures found { result.found ≡ count (found (B.held book.now) (headword word.now)) (within bounds.left bounds.right (headword word.now)) }
+    ensures wrong { result.wrong ≡ count (wrong (B.held book.now) (headword word.now)) (within bounds.left bounds.right (headword word.now)) }
+    ensures missed { result.missed ≡ count (missed (B.held book.now) (headword word.now)) (within bounds.left bounds.right (headword word.now)) }
 {
     let given = given_in(book, word, bounds);
     let hyphens = word.marks & word.mask(bounds);

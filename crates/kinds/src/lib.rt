@@ -1,5 +1,6 @@
 //! The kinds of the positions of a word under a book, by the maximum rule.
 #![tactic(auto)]
+
 pub mod gaps;
 pub mod given;
 pub mod kind;

@@ -22,8 +22,8 @@ fn lift(gaps: &mut [u8], start: usize, row: &Row)
 /// The values of all positions of a word by the maximum rule: that of position i is the greatest that any pattern held gives
 /// it, or 0. Each part of the word is looked up once.
 pub fn values_of<B: ReadingBook>(book: &B, word: &Word) -> Values
-    ensures value { (i : ℕ) → slice_index result.gaps (i + 1) ≡ value (held book.now) (headword word.now) i }
-    ensures greatest { (i : ℕ) → Greatest (held book.now) (headword word.now) i (slice_index result.gaps (i + 1)) }
+    ensures value { (i : ℕ) → slice_index result.gaps (i + 1) ≡ value (B.held book.now) (headword word.now) i }
+    ensures greatest { (i : ℕ) → Greatest (B.held book.now) (headword word.now) i (slice_index result.gaps (i + 1)) }
     ensures rule { MaximumRule }
 {
     let mut gaps = [0; GAPS];

@@ -1,5 +1,6 @@
 //! Patterns: spellings and their order, rows of values, and pattern text both ways.
 #![tactic(auto)]
+
 pub mod making;
 pub mod order;
 pub mod parts;

@@ -3,10 +3,8 @@ ghost use Rattle.std.specs.Prelude.{◌≡◌, Some, refl};
 ghost use Rattle.std.specs.Ordering.{is_eq};
 ghost use Rattle.patterns.specs.Order.{ordering, TotalOrder};
 ghost use Rattle.patterns.specs.Views.{symbols_of};
-ghost use Rattle.std.specs.Cmp.Rules.{comparing};
-ghost use Rattle.std.proofs.Common.{rules, arith};
-ghost use Rattle.std.specs.Cmp as Keys;
-ghost use Rattle.std.specs.Cmp.{partial_order_from_agreeing_total};
+ghost use Rattle.patterns.specs.Orders.{spelling_total, spelling_equiv};
+ghost use Rattle.std.specs.Cmp.{partial_equiv_from_equiv, partial_order_from_agreeing_total};
 
 use crate::pattern::Spelling;
 use std::cmp::Ordering;
@@ -26,7 +24,7 @@ impl Spelling {
 impl PartialEq for Spelling {
     ghost eq = { λ u v. is_eq (ordering (symbols_of u) (symbols_of v)) };
 
-    ghost laws = { Keys.partial_equiv_from_equiv (first_of (Prim.search (comparing, rules), Prim.grind (arith, Self.row.coded.inj))) };
+    ghost laws = { partial_equiv_from_equiv spelling_equiv };
 
     fn eq(&self, other: &Spelling) -> bool {
         self.compare(other) == Ordering::Equal
@@ -34,13 +32,13 @@ impl PartialEq for Spelling {
 }
 
 impl Eq for Spelling {
-    ghost laws = { first_of (Prim.search (comparing, rules), Prim.grind (arith, Self.row.coded.inj)) };
+    ghost laws = { spelling_equiv };
 }
 
 impl PartialOrd for Spelling {
     ghost partial_cmp = { λ u v. Some (ordering (symbols_of u) (symbols_of v)) };
 
-    ghost laws = { partial_order_from_agreeing_total (λ u v. ordering (symbols_of u) (symbols_of v)) (first_of (Prim.search (comparing, rules), Prim.grind (arith, Self.row.coded.inj))) (λ _ _. refl) (first_of (Prim.search (comparing, rules), Prim.grind (arith, Self.row.coded.inj))) };
+    ghost laws = { partial_order_from_agreeing_total (λ u v. ordering (symbols_of u) (symbols_of v)) spelling_total (λ _ _. refl) (λ _ _. refl) };
 
     fn partial_cmp(&self, other: &Spelling) -> Option<Ordering> {
         Some(self.compare(other))
@@ -50,11 +48,11 @@ impl PartialOrd for Spelling {
 impl Ord for Spelling {
     ghost cmp = { λ u v. ordering (symbols_of u) (symbols_of v) };
 
-    ghost total = { first_of (Prim.search (comparing, rules), Prim.grind (arith, Self.row.coded.inj)) };
+    ghost total = { spelling_total };
 
-    ghost matches_partial_cmp = { first_of (Prim.search (comparing, rules), Prim.grind (arith, Self.row.coded.inj)) };
+    ghost matches_partial_cmp = { λ _ _. refl };
 
-    ghost matches_eq = { first_of (Prim.search (comparing, rules), Prim.grind (arith, Self.row.coded.inj)) };
+    ghost matches_eq = { λ _ _. refl };
 
     fn cmp(&self, other: &Spelling) -> Ordering {
         self.compare(other)

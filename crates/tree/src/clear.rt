@@ -8,8 +8,8 @@ use crate::joining::Joining;
 
 // Makes cells of any contents a tree that holds nothing, and answers how many are in use.
 pub(crate) fn clear<V: Joining>(cells: &mut [Cell<V>]) -> usize
-    ensures stands { Stands kind cells.new result 0 }
-    ensures none { meaning kind cells.new result ≡ [] }
+    ensures stands { Stands V.kind cells.new result 0 }
+    ensures none { meaning V.kind cells.new result ≡ [] }
 {
     if cells.len() == 0 {
         return 0;

@@ -21,7 +21,7 @@ pub(crate) fn step<V: Joining>(cells: &mut [Cell<V>], used: usize, at: usize, sy
     requires tree { IsTree cells.old used }
     requires within { at < used }
     requires room { used < length cells.old }
-    ensures { Step kind cells.old cells.new used result.used at symbol result.cell }
+    ensures { Step V.kind cells.old cells.new used result.used at symbol result.cell }
 {
     let place = gap(cells, used, at, symbol);
     if place.here != 0 && cells[place.here].link.symbol == symbol {
@@ -44,9 +44,9 @@ pub(crate) fn descend<V: Joining>(cells: &mut [Cell<V>], used: usize, spelling: 
     requires begun { 0 < used }
     requires room { used + length spelling.now ≤ length cells.old }
     requires short { length spelling.now ≤ longest }
-    requires leaves { Leaves kind cells.old used 0 }
+    requires leaves { Leaves V.kind cells.old used 0 }
     requires shallow { Shallow cells.old used }
-    ensures { Descent kind cells.old cells.new used result.used spelling.now result.cell }
+    ensures { Descent V.kind cells.old cells.new used result.used spelling.now result.cell }
 {
     let mut used = used;
     let mut at = 0;

@@ -39,7 +39,7 @@ pub(crate) fn seek<V: Joining>(cells: &[Cell<V>], used: usize, spelling: &[u8]) 
     requires room { used ≤ length cells.now }
     requires some { 0 < length spelling.now }
     ensures found { Found (links cells.now) (ups cells.now used) used spelling.now result.cell }
-    ensures value { result.value ≡ lookup kind.nothing (meaning kind cells.now used) spelling.now }
+    ensures value { result.value ≡ lookup V.kind.nothing (meaning V.kind cells.now used) spelling.now }
 {
     let cell = find(cells, used, spelling);
     if cell == 0 {
@@ -57,7 +57,7 @@ pub(crate) fn seek<V: Joining>(cells: &[Cell<V>], used: usize, spelling: &[u8]) 
 
 pub(crate) fn join_at<V: Joining>(cells: &mut [Cell<V>], cell: usize, v: V)
     requires { cell < length cells.old }
-    ensures { JoinedAt kind cells.old cells.new cell v }
+    ensures { JoinedAt V.kind cells.old cells.new cell v }
 {
     let old = cells[cell].value;
     let new = old.join(v);
@@ -72,10 +72,10 @@ pub(crate) fn join_in<V: Joining>(
     spelling: &[u8],
     v: V,
 ) -> Result<Filled, Full>
-    requires stands { Stands kind cells.old used count }
+    requires stands { Stands V.kind cells.old used count }
     requires some { 0 < length spelling.now }
     requires ruled { Ruled spelling.now }
-    ensures { Joins kind cells.old cells.new used spelling.now v result }
+    ensures { Joins V.kind cells.old cells.new used spelling.now v result }
 {
     let seen = seek(cells, used, spelling);
     if !seen.value.is_nothing() {

@@ -1,5 +1,6 @@
 //! The spelling tree: values at spellings, over lent cells.
 #![tactic(auto)]
+
 pub mod cell;
 mod clear;
 mod descend;

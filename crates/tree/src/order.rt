@@ -90,11 +90,11 @@ pub(crate) fn way_to<V: Copy>(cells: &[Cell<V>], other: &[u8], turn: Turn) -> Wa
 
 // The first spelling held from that of a cell on.
 pub(crate) fn first_from<V: Joining>(cells: &[Cell<V>], used: usize, way: Way) -> Spelling
-    requires stands { Holding kind cells.now used }
+    requires stands { Holding V.kind cells.now used }
     requires inner { 0 < way.cell }
     requires within { way.cell < used }
     requires written { Written (spelling_at cells.now used way.cell) way.len way.symbols }
-    ensures { FirstFrom kind cells.now used way.cell (symbols_of result) }
+    ensures { FirstFrom V.kind cells.now used way.cell (symbols_of result) }
 {
     let mut at = way.cell;
     let mut len = way.len;
@@ -113,8 +113,8 @@ pub(crate) fn first_after<V: Joining>(
     used: usize,
     other: &[u8],
 ) -> Option<Spelling>
-    requires { Holding kind cells.now used }
-    ensures { spelling result ≡ least_of (after other.now (meaning kind cells.now used)) }
+    requires { Holding V.kind cells.now used }
+    ensures { spelling result ≡ least_of (after other.now (meaning V.kind cells.now used)) }
 {
     if used == 0 {
         return None;

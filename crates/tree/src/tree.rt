@@ -26,8 +26,8 @@ pub struct Tree<'a, V> {
 impl<'a, V: Joining> Tree<'a, V> {
     /// A tree that holds nothing, over cells of any contents.
     pub fn new(cells: &'a mut [Cell<V>]) -> Tree<'a, V>
-        ensures stands { Stands kind result.cells.now result.used result.count }
-        ensures none { meaning kind result.cells.now result.used ≡ [] }
+        ensures stands { Stands V.kind result.cells.now result.used result.count }
+        ensures none { meaning V.kind result.cells.now result.used ≡ [] }
         ensures size { length result.cells.now ≡ length cells.old }
     {
         let used = clear(cells);
@@ -47,16 +47,16 @@ impl<'a, V: Joining> Tree<'a, V> {
 
     /// How many spellings hold something.
     pub fn count(&self) -> usize
-        requires { Stands kind self.now.cells.now self.now.used self.now.count }
-        ensures { result ≡ length (meaning kind self.now.cells.now self.now.used) }
+        requires { Stands V.kind self.now.cells.now self.now.used self.now.count }
+        ensures { result ≡ length (meaning V.kind self.now.cells.now self.now.used) }
     {
         self.count
     }
 
     /// The value at a spelling, or nothing.
     pub fn value(&self, spelling: &Spelling) -> V
-        requires { Stands kind self.now.cells.now self.now.used self.now.count }
-        ensures { result ≡ lookup kind.nothing (meaning kind self.now.cells.now self.now.used) (symbols_of spelling.now) }
+        requires { Stands V.kind self.now.cells.now self.now.used self.now.count }
+        ensures { result ≡ lookup V.kind.nothing (meaning V.kind self.now.cells.now self.now.used) (symbols_of spelling.now) }
     {
         let symbols = &spelling.symbols[0..spelling.len];
         hold::seek(self.cells, self.used, symbols).value
@@ -64,16 +64,16 @@ impl<'a, V: Joining> Tree<'a, V> {
 
     /// The least spelling that holds something.
     pub fn least(&self) -> Option<Spelling>
-        requires { Stands kind self.now.cells.now self.now.used self.now.count }
-        ensures { spelling result ≡ least_of (meaning kind self.now.cells.now self.now.used) }
+        requires { Stands V.kind self.now.cells.now self.now.used self.now.count }
+        ensures { spelling result ≡ least_of (meaning V.kind self.now.cells.now self.now.used) }
     {
         first_after(self.cells, self.used, &[])
     }
 
     /// The least spelling that holds something and comes after another, which may hold something or not.
     pub fn least_after(&self, other: &Spelling) -> Option<Spelling>
-        requires { Stands kind self.now.cells.now self.now.used self.now.count }
-        ensures { spelling result ≡ least_of (after (symbols_of other.now) (meaning kind self.now.cells.now self.now.used)) }
+        requires { Stands V.kind self.now.cells.now self.now.used self.now.count }
+        ensures { spelling result ≡ least_of (after (symbols_of other.now) (meaning V.kind self.now.cells.now self.now.used)) }
     {
         let symbols = &other.symbols[0..other.len];
         first_after(self.cells, self.used, symbols)
@@ -81,8 +81,8 @@ impl<'a, V: Joining> Tree<'a, V> {
 
     /// Joins `v` at a spelling.
     pub fn join(&mut self, spelling: &Spelling, v: V) -> Result<(), Full>
-        requires { Stands kind self.old.cells.now self.old.used self.old.count }
-        ensures { TreeJoins kind self.old.cells.now self.new.cells.now self.old.used self.new.used self.old.count self.new.count (symbols_of spelling.now) v result }
+        requires { Stands V.kind self.old.cells.now self.old.used self.old.count }
+        ensures { TreeJoins V.kind self.old.cells.now self.new.cells.now self.old.used self.new.used self.old.count self.new.count (symbols_of spelling.now) v result }
     {
         let used = self.used;
         let count = self.count;
@@ -95,8 +95,8 @@ impl<'a, V: Joining> Tree<'a, V> {
 
     /// Drops all; the whole limit can be used again.
     pub fn empty(&mut self)
-        ensures stands { Stands kind self.new.cells.now self.new.used self.new.count }
-        ensures none { meaning kind self.new.cells.now self.new.used ≡ [] }
+        ensures stands { Stands V.kind self.new.cells.now self.new.used self.new.count }
+        ensures none { meaning V.kind self.new.cells.now self.new.used ≡ [] }
         ensures size { length self.new.cells.now ≡ length self.old.cells.now }
     {
         let used = clear(self.cells);

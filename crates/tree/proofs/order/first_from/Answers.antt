@@ -63,7 +63,7 @@ invariant_of-result g c =
     let r = cell_ruled K cs c.args.used (length (meaning g.V.Joining.kind c.args.cells.now c.args.used)) p c.requires.stands p inv.1 held in
     let w = spelling_at cs c.args.used p in
     let a = inv.2 in
-    (a.full, ((some_symbols w c.loop-at.len c.loop-at.symbols a r, a.sized), (all_symbolic w c.loop-at.len c.loop-at.symbols a r, (a.unused, (inner_letters w c.loop-at.len c.loop-at.symbols a r, (some_letter w c.loop-at.len c.loop-at.symbols a r, tt))))))
+    record { full = a.full; sized = (some_symbols w c.loop-at.len c.loop-at.symbols a r, a.sized); symbolic = all_symbolic w c.loop-at.len c.loop-at.symbols a r; unused = a.unused; edged = inner_letters w c.loop-at.len c.loop-at.symbols a r; lettered = some_letter w c.loop-at.len c.loop-at.symbols a r }
 
 pub returns : goal.returns
 returns g c =

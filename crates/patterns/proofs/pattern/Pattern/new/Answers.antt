@@ -35,15 +35,12 @@ invariant_of-result c =
     let s = c.args.spelling in
     let vs = c.args.row.values in
     let z = none_above (drop (suc (length (symbols_of s))) vs) (sym (beyond s vs c.args.row.full) ∙ sym c.if-any_above.ensures) in
-    let n : length (symbols_of s) ≡ s.len = length-take-le s.len s.symbols (omega (arith, s.full, s.sized)) in (
-      sym c.if-not-any_above.ensures,
-      (
-        (λ k h.
-            let e : suc (length (symbols_of s)) + (k - suc s.len) ≡ k = omega arith in
-            sym (ap (λ (j : ℕ). get_or vs j 0) e) ∙ sym (get_or-drop (suc (length (symbols_of s))) vs (k - suc s.len) 0) ∙ z (k - suc s.len)),
-        tt,
-      ),
-    )
+    let n : length (symbols_of s) ≡ s.len = length-take-le s.len s.symbols (omega (arith, s.full, s.sized)) in record {
+      valued = sym c.if-not-any_above.ensures;
+      within = (λ k h.
+          let e : suc (length (symbols_of s)) + (k - suc s.len) ≡ k = omega arith in
+          sym (ap (λ (j : ℕ). get_or vs j 0) e) ∙ sym (get_or-drop (suc (length (symbols_of s))) vs (k - suc s.len) 0) ∙ z (k - suc s.len));
+    }
 
 pub returns : goal.returns
 returns c =

@@ -68,14 +68,14 @@ invariant_of-spelling c =
     let n = c.loop-i.len in
     let a = c.loop-i.after_digit in
     let at = c.loop-i.invariant in
-    (at.4, ((end_len t i S V n a at (sym c.if-not-any_above.ensures), at.2), (end_symbolic t i S V n a at, (end_padded t i S V n a at, (end_edged t i S V n a at, (sym c.if-not-any_above.ensures, tt))))))
+    record { full = at.4; sized = (end_len t i S V n a at (sym c.if-not-any_above.ensures), at.2); symbolic = end_symbolic t i S V n a at; unused = end_padded t i S V n a at; edged = end_edged t i S V n a at; lettered = sym c.if-not-any_above.ensures }
 
 pub invariant_of-result : goal.invariant_of-result
-invariant_of-result c = (c.loop-i.invariant.5, ((at_sound c.args.text.now c.loop-i.i c.loop-i.symbols c.loop-i.values c.loop-i.len c.loop-i.after_digit c.loop-i.invariant).digits, tt))
+invariant_of-result c = record { full = c.loop-i.invariant.5; digits = (at_sound c.args.text.now c.loop-i.i c.loop-i.symbols c.loop-i.values c.loop-i.len c.loop-i.after_digit c.loop-i.invariant).digits }
 
 pub invariant_of-result-2 : goal.invariant_of-result-2
 invariant_of-result-2 c =
-    (sym c.if-not-any_above-2.ensures, (end_within c.args.text.now c.loop-i.i c.loop-i.symbols c.loop-i.values c.loop-i.len c.loop-i.after_digit c.loop-i.invariant, tt))
+    record { valued = sym c.if-not-any_above-2.ensures; within = end_within c.args.text.now c.loop-i.i c.loop-i.symbols c.loop-i.values c.loop-i.len c.loop-i.after_digit c.loop-i.invariant }
 
 pub returns : goal.returns
 returns c =

@@ -28,7 +28,7 @@ invariant_of-result c =
     let m = c.args.len in
     let xs = c.symbols_from-symbols.result in
     let cut : Cut w s m xs = record { full = c.symbols_from-symbols.ensures.full; here = c.symbols_from-symbols.ensures.symbols; unused = c.symbols_from-symbols.ensures.unused } in
-    (cut.full, ((omega arith, omega arith), (symbolic w s m xs cut, (cut.unused, (edged w s m xs (omega arith) cut, (sym c.if-not-any_above.ensures, tt))))))
+    record { full = cut.full; sized = (omega arith, omega arith); symbolic = symbolic w s m xs cut; unused = cut.unused; edged = edged w s m xs (omega arith) cut; lettered = sym c.if-not-any_above.ensures }
 
 pub returns : goal.returns
 returns c =
