@@ -1,5 +1,6 @@
 //! The makes over a spelling tree: a book of patterns, and a tally of counts.
 #![tactic(auto)]
+
 pub mod booking;
 pub mod counting;
 pub mod counts;

@@ -37,7 +37,7 @@ invariant_of-self c =
     let p = c.args.pattern.now in
     let u = symbols_of p.spelling in
     let s = upright row_kind t c.args.self.now.stands in
-    (∣ leads_upright row_kind t t' u p.row s c.join.result c.join.ensures ∣₁, (bounded t t' u p.row s (valid_of p p.spelling.full p.row.full).within c.args.self.now.bounded c.join.result c.join.ensures, tt))
+    record { stands = ∣ leads_upright row_kind t t' u p.row s c.join.result c.join.ensures ∣₁; bounded = bounded t t' u p.row s (valid_of p p.spelling.full p.row.full).within c.args.self.now.bounded c.join.result c.join.ensures }
 
 pub returns : goal.returns
 returns c =

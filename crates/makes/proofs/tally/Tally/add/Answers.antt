@@ -20,7 +20,7 @@ join-requires c = upright counts_kind c.args.self.now.tree c.args.self.now.stand
 pub invariant_of-self : goal.invariant_of-self
 invariant_of-self c =
     let t = c.args.self.now.tree in
-    (∣ leads_upright counts_kind t c.join.new.self (symbols_of c.args.spelling.now) c.args.counts (upright counts_kind t c.args.self.now.stands) c.join.result c.join.ensures ∣₁, tt)
+    record { stands = ∣ leads_upright counts_kind t c.join.new.self (symbols_of c.args.spelling.now) c.args.counts (upright counts_kind t c.args.self.now.stands) c.join.result c.join.ensures ∣₁ }
 
 pub returns : goal.returns
 returns c =

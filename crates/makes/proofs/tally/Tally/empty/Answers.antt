@@ -1,4 +1,4 @@
 use Rattle.makes.proofs.tally.Tally.empty.Goals as goal
 
 pub invariant_of-self : goal.invariant_of-self
-invariant_of-self c = (∣ c.empty.ensures.stands ∣₁, tt)
+invariant_of-self c = record { stands = ∣ c.empty.ensures.stands ∣₁ }
