@@ -10,7 +10,7 @@ use Rattle.words.specs.Words.{Headword}
 use Rattle.patterns.specs.Spellings.{Spelled, Valid, longest, places, any_above_zero, no_values, greater}
 use Rattle.patterns.specs.Parts.{padded, part, is_spelling}
 use Rattle.patterns.proofs.Cutting.{padded_length}
-use Rattle.patterns.proofs.Rowing.{get_d_greater}
+use Rattle.patterns.proofs.Rowing.{get_or_greater}
 use Rattle.books.specs.Maps.{Ascending, same, lookup}
 use Rattle.books.specs.Books.{Book, Sound, row_in}
 use Rattle.books.specs.Rule.{Matches, Gives, Greatest, greatest, matches, gives_by, gives, value, MaximumRule, given_at}
@@ -198,7 +198,7 @@ parts_more b w s m old new l e i k =
 
 pub part_joined : (b : Book) (w : Headword) (s m : ℕ) (old row u : List ℕ) → is_spelling w s m ≡ true → u ≡ part (padded w) s m → row ≡ row_in b u → (k : ℕ) → get_or (greater old row) k 0 ≡ max (get_or old k 0) (part_gives b w s k m)
 part_joined b w s m old row u t e f k =
-    get_d_greater old row k
+    get_or_greater old row k
     ∙ ap (max (get_or old k 0)) (ap (λ (r : List ℕ). get_or r k 0) (f ∙ ap (row_in b) e) ∙ sym (cond-true (is_spelling w s m) (get_or (row_in b (part (padded w) s m)) k 0) 0 t))
 
 pub part_none : (b : Book) (w : Headword) (s m : ℕ) (old : List ℕ) → is_spelling w s m ≡ false → (k : ℕ) → get_or old k 0 ≡ max (get_or old k 0) (part_gives b w s k m)

@@ -3,7 +3,7 @@ use Rattle.std.proofs.Common.{◌≡◌, ℕ, zero, suc, ◌<◌, Bool, true, fa
 use Rattle.patterns.specs.declared.pattern.Row.{Row}
 use Rattle.patterns.specs.Order.{before}
 use Rattle.patterns.specs.Spellings.{places, no_values, greater}
-use Rattle.patterns.proofs.Rowing.{get_d_greater}
+use Rattle.patterns.proofs.Rowing.{get_or_greater}
 use Rattle.books.specs.Maps.{Map, same, holds, lookup, least_of, after, Joined}
 use Rattle.tree.specs.RowKind.{no_row, join_rows}
 use Rattle.tree.proofs.Means.{same_or}
@@ -48,7 +48,7 @@ joined_bounded m n u r z j b w k h = ⊎_elim
     ap (λ (x : List ℕ). get_or (lookup no_row n x).values k 0) e
     ∙ ap (λ (x : Row). get_or x.values k 0) j.here
     ∙ ap (λ (x : List ℕ). get_or (greater (lookup no_row m x).values r.values) k 0) (sym e) in
-    let g = get_d_greater (lookup no_row m w).values r.values k in
+    let g = get_or_greater (lookup no_row m w).values r.values k in
     let y = z k (subst (λ (x : List ℕ). length x < k) e h) in
     let o = b w k h in
     omega arith)

@@ -4,11 +4,11 @@ use Rattle.std.proofs.lemmas.List.{get_or-set_same, get_or-set_other, length-set
 use Rattle.std.proofs.lemmas.Bool.{cases_eq}
 use Rattle.patterns.specs.Spellings.{greater}
 
-pub get_d_greater : (xs ys : List ℕ) (k : ℕ) → get_or (greater xs ys) k 0 ≡ max (get_or xs k 0) (get_or ys k 0)
-get_d_greater [] ys k = omega arith
-get_d_greater (x ∷ xs) [] k = omega arith
-get_d_greater (x ∷ xs) (y ∷ ys) zero = refl
-get_d_greater (x ∷ xs) (y ∷ ys) (suc k) = get_d_greater xs ys k
+pub get_or_greater : (xs ys : List ℕ) (k : ℕ) → get_or (greater xs ys) k 0 ≡ max (get_or xs k 0) (get_or ys k 0)
+get_or_greater [] ys k = omega arith
+get_or_greater (x ∷ xs) [] k = omega arith
+get_or_greater (x ∷ xs) (y ∷ ys) zero = refl
+get_or_greater (x ∷ xs) (y ∷ ys) (suc k) = get_or_greater xs ys k
 
 pub length_greater : (n : ℕ) (xs ys : List ℕ) → length xs ≡ n → length ys ≡ n → length (greater xs ys) ≡ n
 length_greater n [] ys a b = b
@@ -37,4 +37,4 @@ joined_more xs ys k x zs h e i = record {
 
 pub joined_all : (xs ys : List ℕ) (n k : ℕ) (zs : List ℕ) → length xs ≡ n → length ys ≡ n → n ≤ k → JoinedTo xs ys k zs → zs ≡ greater xs ys
 joined_all xs ys n k zs a b l i =
-    ext_get_or 0 zs (greater xs ys) (i.same ∙ a ∙ sym (length_greater n xs ys a b)) (λ j h. i.done j (omega (arith, i.same)) ∙ sym (get_d_greater xs ys j))
+    ext_get_or 0 zs (greater xs ys) (i.same ∙ a ∙ sym (length_greater n xs ys a b)) (λ j h. i.done j (omega (arith, i.same)) ∙ sym (get_or_greater xs ys j))

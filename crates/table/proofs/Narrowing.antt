@@ -11,9 +11,9 @@ use Rattle.table.specs.Places.{PlaceOf}
 use Rattle.table.proofs.Ascents.{key_is, pair}
 
 -- what the test of a row says
-pub asked : (rows : List Pattern) (m : ℕ) (d : Pattern) (u : List ℕ) (t : Bool) (x : Option Ordering) → m < length rows →
-    x ≡ Some (ordering (symbols_of (get_or rows m d).spelling) u) → t ≡ is_some_and is_lt x → before (key_at rows m) u ≡ t
-asked rows m d u t x h e f = ap (λ (v : List ℕ). before v u) (key_is rows m d h) ∙ sym (f ∙ ap (is_some_and is_lt) e)
+pub asked : (rows : List Pattern) (m : ℕ) (d : Pattern) (u : List ℕ) (t : Bool) → m < length rows →
+    t ≡ before (symbols_of (get_or rows m d).spelling) u → before (key_at rows m) u ≡ t
+asked rows m d u t h f = ap (λ (v : List ℕ). before v u) (key_is rows m d h) ∙ sym f
 
 -- the rows below `low` come before the spelling, and none from `high` on does
 pub record Narrowed (rows : List Pattern) (u : List ℕ) (low high : ℕ) : Type 0 where

@@ -1,5 +1,6 @@
 //! The table: a writing book over lent rows.
 #![tactic(auto)]
+
 pub mod reading;
 pub mod search;
 pub mod table;

@@ -14,8 +14,7 @@ loop-low-preserved-then-lt c =
     let high = c.loop-low.high in
     let m = low + (high - low) / 2 in
     let h : m < length rows = omega arith in
-    let t = c.if-lt.ensures in
-    narrowed_up rows u low high c.requires c.loop-low.invariant m (omega arith) (asked rows m c.index-rows-middle.result u _ t.0 h t.1 t.2)
+    narrowed_up rows u low high c.requires c.loop-low.invariant m (omega arith) (asked rows m c.index-rows-middle.result u _ h c.if-lt.ensures)
 
 pub loop-low-preserved : goal.loop-low-preserved
 loop-low-preserved c =
@@ -25,8 +24,7 @@ loop-low-preserved c =
     let high = c.loop-low.high in
     let m = low + (high - low) / 2 in
     let h : m < length rows = omega arith in
-    let t = c.if-lt.ensures in
-    narrowed_down rows u low high c.requires c.loop-low.invariant m (omega arith) (omega arith) (asked rows m c.index-rows-middle.result u _ t.0 h t.1 t.2)
+    narrowed_down rows u low high c.requires c.loop-low.invariant m (omega arith) (omega arith) (asked rows m c.index-rows-middle.result u _ h c.if-lt.ensures)
 
 pub returns : goal.returns
 returns c = narrowed_place c.args.rows.now (symbols_of c.args.spelling.now) c.loop-low.low c.loop-low.high c.requires c.loop-low.invariant c.loop-low-test.false

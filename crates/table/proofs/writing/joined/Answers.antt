@@ -4,7 +4,7 @@ use Rattle.patterns.specs.declared.pattern.Spelling.{Spelling}
 use Rattle.patterns.specs.Spellings.{any_above_zero}
 use Rattle.patterns.specs.Views.{symbols_of}
 use Rattle.patterns.proofs.RowLaws.{above_greater}
-use Rattle.patterns.proofs.Rowing.{get_d_greater}
+use Rattle.patterns.proofs.Rowing.{get_or_greater}
 use Rattle.table.proofs.writing.joined.Goals as goal
 
 -- spellings of the same symbols are as long
@@ -17,11 +17,9 @@ invariant_of-result c =
     let new = c.args.new.now in
     let a = symbols_length old.spelling in
     let b = symbols_length new.spelling in
-    let e = ap (λ (x : List ℕ). length x) c.requires in (
-      ap any_above_zero c.greater.ensures ∙ above_greater old.row.values new.row.values old.valued,
-      (
-        (λ k h. ap (λ (x : List ℕ). get_or x k 0) c.greater.ensures ∙ get_d_greater old.row.values new.row.values k
-            ∙ omega (arith, old.within k h, new.within k (omega arith))),
-        tt,
-      ),
-    )
+    let e = ap (λ (x : List ℕ). length x) c.requires in
+    record {
+      valued = ap any_above_zero c.greater.ensures ∙ above_greater old.row.values new.row.values old.valued;
+      within = λ k h. ap (λ (x : List ℕ). get_or x k 0) c.greater.ensures ∙ get_or_greater old.row.values new.row.values k
+          ∙ omega (arith, old.within k h, new.within k (omega arith));
+    }

@@ -24,7 +24,7 @@ invariant_of-self-in-loop-k c =
     let p = get_or t.rows.now (c.loop-k.k - 1) c.index-self-k.result in
     let e = length-set t.rows.now (c.loop-k.k - 1 + 1) p in
     let h = c.loop-k.invariant.1 in
-    (omega (arith, t.within), (order_set t.rows.now t.used (c.loop-k.k - 1 + 1) p (omega arith) t.ordered, tt))
+    record { within = omega (arith, t.within); ordered = order_set t.rows.now t.used (c.loop-k.k - 1 + 1) p (omega arith) t.ordered }
 
 pub loop-k-preserved : goal.loop-k-preserved
 loop-k-preserved c =

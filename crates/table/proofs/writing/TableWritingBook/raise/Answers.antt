@@ -17,10 +17,11 @@ pub invariant_of-self : goal.invariant_of-self
 invariant_of-self c =
     let t = c.args.self.now in
     let f = c.in-Ok.ensures in
-    let n = length-set t.rows.now c.in-Ok.at c.joined.result in (
-      omega (arith, t.within),
-      (held_order t c.args.pattern.now c.in-Ok.at c.index-self-at.result f.within f.place c.joined.result c.joined.ensures, tt),
-    )
+    let n = length-set t.rows.now c.in-Ok.at c.joined.result in
+    record {
+      within = omega (arith, t.within);
+      ordered = held_order t c.args.pattern.now c.in-Ok.at c.index-self-at.result f.within f.place c.joined.result c.joined.ensures;
+    }
 
 pub returns-in-Ok : goal.returns-in-Ok
 returns-in-Ok c =
@@ -56,10 +57,11 @@ invariant_of-self-in-Err c =
     let t = c.args.self.now in
     let f = c.in-Err.ensures in
     let new = c.make_room.new.self.rows.now in
-    let e = put_length t c.args.pattern.now c.in-Err.at f.within f.place c.if-used-self.false new c.make_room.ensures.rows in (
-      omega arith,
-      (put_order t c.args.pattern.now c.in-Err.at f.within f.place c.if-used-self.false new c.make_room.ensures.rows, tt),
-    )
+    let e = put_length t c.args.pattern.now c.in-Err.at f.within f.place c.if-used-self.false new c.make_room.ensures.rows in
+    record {
+      within = omega arith;
+      ordered = put_order t c.args.pattern.now c.in-Err.at f.within f.place c.if-used-self.false new c.make_room.ensures.rows;
+    }
 
 pub returns-else-used-self : goal.returns-else-used-self
 returns-else-used-self c =
