@@ -3,7 +3,7 @@ use Rattle.std.proofs.Common.{ap, ◌∙◌, arith}
 use Rattle.std.specs.Prelude.{ℕ, zero, suc, ◌≤◌, not, replicate, slice_index, refl}
 use Rattle.patterns.specs.declared.pattern.Row.{Row}
 use Rattle.patterns.specs.Spellings.{places, highest, any_above_zero, no_values, greater}
-use Rattle.patterns.proofs.Rowing.{get_d_greater, length_greater}
+use Rattle.patterns.proofs.Rowing.{get_or_greater, length_greater}
 use Rattle.patterns.proofs.RowLaws.{greater_commutes, greater_associates, greater_zeros, zeros_only, zeros_told, row_path}
 use Rattle.tree.specs.Kinds.{Kind}
 
@@ -22,7 +22,7 @@ abbrev pub join_rows : Row → Row → Row
 join_rows p q = record {
   values = greater p.values q.values;
   full = length_greater places p.values q.values p.full q.full;
-  digits = λ k. let e = get_d_greater p.values q.values k in omega (arith, p.digits k, q.digits k);
+  digits = λ k. let e = get_or_greater p.values q.values k in omega (arith, p.digits k, q.digits k);
 }
 
 -- with its laws
