@@ -1,7 +1,7 @@
 -- The maximum rule: the greatest value is what the function says, and what the parts of a word look up.
-use Rattle.std.proofs.Common.{◌≡◌, ℕ, zero, suc, ◌+◌, ◌-◌, ◌<◌, ◌≤◌, min, max, Bool, true, false, cond, ◌&&◌, leb, ◌⊎◌, List, [], ◌∷◌, length, get_or, take, drop, replicate, sym, refl, ap, ◌∙◌, subst, inl, inr, ⊎_elim, arith}
+use Rattle.std.proofs.Common.{◌≡◌, ℕ, zero, suc, ◌+◌, ◌-◌, ◌<◌, ◌≤◌, min, max, true, false, cond, ◌&&◌, leb, ◌⊎◌, List, [], ◌∷◌, length, get_or, drop, sym, ap, ◌∙◌, subst, inl, inr, ⊎_elim, arith}
 use Rattle.std.proofs.lemmas.List.{length-take-le, length-drop}
-use Rattle.std.proofs.lemmas.Bool.{cases_Bool, cases_lt, and_parts, and_from, leb-true, le-leb, cond-true, cond-false, cond_both, false≢true}
+use Rattle.std.proofs.lemmas.Bool.{cases_Bool, and_parts, and_from, leb-true, le-leb, cond-true, cond-false, cond_both, false≢true}
 use Rattle.std.proofs.ByRecursion.{all-has, All-weaker}
 use Rattle.std.specs.List.{ContainsAt as Has, AllByRecursion as All}
 use Rattle.text.proofs.Padding.{zeros}
@@ -11,7 +11,7 @@ use Rattle.patterns.specs.Spellings.{Spelled, Valid, longest, places, any_above_
 use Rattle.patterns.specs.Parts.{padded, part, is_spelling}
 use Rattle.patterns.proofs.Cutting.{padded_length}
 use Rattle.patterns.proofs.Rowing.{get_or_greater}
-use Rattle.books.specs.Maps.{Ascending, same, lookup}
+use Rattle.books.specs.Maps.{same}
 use Rattle.books.specs.Books.{Book, Sound, row_in}
 use Rattle.books.specs.Rule.{Matches, Gives, Greatest, greatest, matches, gives_by, gives, value, MaximumRule, given_at}
 use Rattle.books.proofs.Mapping.{same_refl, same_eq, looked}

@@ -1,5 +1,5 @@
 -- What a book means: the patterns that it holds.
-use Rattle.std.specs.Prelude.{◌≡◌, ℕ, List}
+use Rattle.std.specs.Prelude.{ℕ, List}
 use Rattle.std.specs.List.{AllByRecursion as All}
 use Rattle.patterns.specs.Spellings.{Spelled, Valid, no_values, greater}
 use Rattle.books.specs.Maps.{Map, Ascending, lookup, Joined}

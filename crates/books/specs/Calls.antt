@@ -1,5 +1,5 @@
 -- What the calls of a book answer.
-use Rattle.std.specs.Prelude.{◌≡◌, ℕ, ◌≤◌, true, false, ◌||◌, List, length, Ok, Err, Option, Result, nat_lt}
+use Rattle.std.specs.Prelude.{◌≡◌, ℕ, true, false, ◌||◌, List, length, Ok, Err, Option, Result, nat_lt}
 use Rattle.std.specs.Option.{option_map}
 use Rattle.patterns.specs.declared.pattern.Spelling.{Spelling}
 use Rattle.patterns.specs.Spellings.{Spelled}

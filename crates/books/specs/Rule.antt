@@ -1,5 +1,5 @@
 -- The maximum rule.
-use Rattle.std.specs.Prelude.{◌≡◌, ℕ, suc, ◌+◌, ◌-◌, ◌%◌, ◌≤◌, max, Bool, true, cond, ◌&&◌, ◌⊎◌, List, [], ◌∷◌, length, nat_le, slice_index, slice_index_or}
+use Rattle.std.specs.Prelude.{◌≡◌, ℕ, suc, ◌+◌, ◌-◌, ◌≤◌, max, Bool, cond, ◌&&◌, ◌⊎◌, List, [], ◌∷◌, length, nat_le, slice_index, slice_index_or}
 use Rattle.std.specs.List.{ContainsAt as Has}
 use Rattle.words.specs.Counting.{numbers}
 use Rattle.words.specs.Words.{Headword}

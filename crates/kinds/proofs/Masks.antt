@@ -1,11 +1,11 @@
 -- Counting the ones of masked positions counts the positions.
-use Rattle.std.proofs.Common.{◌≡◌, ℕ, zero, suc, ◌+◌, ◌-◌, ◌*◌, ◌/◌, ◌%◌, ◌^◌, ◌<◌, ◌≤◌, min, Bool, true, false, cond, not, ◌&&◌, eqb, List, [], ◌∷◌, length, filter, sym, refl, ap, ◌∙◌, subst, ap₂, add-zero, mod-eq_of_lt, mul_assoc, add-mul, add_comm, one-mul, pow-suc, zero-add, zero-mul, mul_right_comm, add-one, arith, pow_pos, shl_exact, shr-shr}
+use Rattle.std.proofs.Common.{◌≡◌, ℕ, zero, suc, ◌+◌, ◌-◌, ◌*◌, ◌/◌, ◌%◌, ◌^◌, ◌<◌, ◌≤◌, min, Bool, true, false, cond, not, ◌&&◌, eqb, ◌∷◌, filter, sym, refl, ap, ◌∙◌, subst, ap₂, add-zero, mod-eq_of_lt, mul_assoc, add-mul, add_comm, one-mul, pow-suc, zero-add, zero-mul, mul_right_comm, add-one, arith, pow_pos, shl_exact, shr-shr}
 use lib.Count.{ones, ones_step, ones_cat}
 use lib.Bits.{bit_and, bit_or, and_step, and_zero_r, and_le_r, and_mod, and_block, and_high, or_shifted_r}
 use Rattle.std.proofs.lemmas.Bool.{eqb-true, eqb-false}
 use Rattle.words.specs.Counting.{count, one, numbers}
 use Rattle.words.specs.Words.{bit, bits_of}
-use Rattle.words.proofs.Bits.{digit, bits_numbers}
+use Rattle.words.proofs.Bits.{bits_numbers}
 
 -- twice a number and a binary digit
 double_half : (q r : ℕ) → r < 2 → (q * 2 + r) / 2 ≡ q

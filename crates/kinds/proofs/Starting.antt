@@ -1,12 +1,12 @@
 -- The values of a word, raised start by start, are those of the maximum rule.
-use Rattle.std.proofs.Common.{◌≡◌, ℕ, zero, suc, ◌+◌, ◌-◌, ◌<◌, ◌≤◌, max, Bool, true, false, cond, ◌&&◌, ltb, leb, ◌⊎◌, List, [], ◌∷◌, length, get_or, sym, refl, ap, ◌∙◌, subst, inl, inr, ⊎_elim, arith}
+use Rattle.std.proofs.Common.{◌≡◌, ℕ, suc, ◌+◌, ◌-◌, ◌<◌, ◌≤◌, max, Bool, true, cond, ◌&&◌, ltb, leb, ◌⊎◌, List, [], ◌∷◌, length, get_or, sym, refl, ap, ◌∙◌, inl, inr, ⊎_elim, arith}
 use Rattle.std.proofs.lemmas.List.{get_or_past}
 use Rattle.std.proofs.lemmas.Bool.{cases_lt, and_parts, and_from, leb-true, le-leb, lt-leb, lt-ltb, le-ltb, cond-true, cond-false, cond_both}
 use Rattle.std.proofs.ByRecursion.{all-has, all_has_itself}
 use Rattle.std.specs.List.{ContainsAt as Has, AllByRecursion as All}
 use Rattle.words.specs.Counting.{numbers}
 use Rattle.words.specs.Words.{Headword}
-use Rattle.patterns.specs.Spellings.{Spelled, Valid, places, longest}
+use Rattle.patterns.specs.Spellings.{Spelled, Valid, longest}
 use Rattle.books.specs.Books.{Book, Sound}
 use Rattle.books.specs.Rule.{greatest, matches, gives_by, gives, value, given_at}
 use Rattle.books.proofs.Maxima.{greatest_le, greatest_each, numbers_le, numbers_at, numbers_more}

@@ -1,6 +1,5 @@
 -- The kinds of the positions of a word under a book.
 use Rattle.std.specs.Prelude.{ℕ, ◌%◌, Bool, not, ◌&&◌, List, length, filter, ◌==◌}
-use Rattle.words.specs.Counting.{count}
 use Rattle.words.specs.Words.{Headword, hyphen, positions, bits_of}
 use Rattle.books.specs.Books.{Book}
 use Rattle.books.specs.Rule.{value}

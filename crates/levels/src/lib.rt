@@ -1,5 +1,6 @@
 //! The settings of a level, and the order of its passes.
 #![tactic(auto)]
+
 pub mod checking;
 pub mod order;
 pub mod settings;

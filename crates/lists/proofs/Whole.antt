@@ -1,12 +1,12 @@
 -- Why the content of a text is that of its lines up to the ending: the theorem behind `TextList::new`.
-use Rattle.std.proofs.Common.{◌≡◌, ℕ, zero, suc, ◌+◌, ◌<◌, ◌≤◌, Bool, true, false, cond, leb, ◌⊎◌, List, [], ◌∷◌, ◌++◌, length, get_or, take, sym, refl, ap, ◌∙◌, subst, subst₂, inl, inr, ⊎_elim, add-zero, arith}
+use Rattle.std.proofs.Common.{◌≡◌, ℕ, zero, suc, ◌+◌, ◌<◌, ◌≤◌, Bool, true, false, cond, leb, ◌⊎◌, List, [], ◌∷◌, ◌++◌, length, get_or, take, sym, refl, ap, ◌∙◌, subst, inl, inr, ⊎_elim, add-zero, arith}
 use Rattle.std.proofs.lemmas.List.{length-append}
 use Rattle.std.proofs.lemmas.Bool.{leb-true, leb-false}
 use Rattle.text.specs.Refusals.{Refused, at_byte}
 use Rattle.words.specs.Words.{Headword}
 use Rattle.words.specs.Line.{Reading, blank, spells, refused, reading}
 use Rattle.text.specs.Lines.{lines_of}
-use Rattle.lists.specs.Listing.{fullest, Ending, clean, stops, Content, overfull}
+use Rattle.lists.specs.Listing.{fullest, Ending, stops, Content, overfull}
 use Rattle.lists.specs.Texts.{content_by, content_from, text_content, word_in, spelled_by, Passes, EndsThere, Listed}
 use Rattle.lists.proofs.Steps.{some_bytes, spells_not, refused_not}
 

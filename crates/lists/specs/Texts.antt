@@ -1,8 +1,8 @@
 -- The word list of a text: a word line a word.
-use Rattle.std.specs.Prelude.{◌≡◌, ℕ, suc, ◌+◌, ◌<◌, ◌≤◌, Bool, cond, ◌⊎◌, List, [], ◌∷◌, ◌++◌, length, take, nat_le, slice_index_or}
+use Rattle.std.specs.Prelude.{◌≡◌, ℕ, suc, ◌+◌, ◌<◌, ◌≤◌, cond, ◌⊎◌, List, [], ◌∷◌, ◌++◌, length, take, nat_le, slice_index_or}
 use Rattle.std.proofs.Common.{inl, inr}
 use Rattle.text.specs.Lines.{lines_of}
-use Rattle.text.specs.Refusals.{Refused, at_byte}
+use Rattle.text.specs.Refusals.{at_byte}
 use Rattle.words.specs.Words.{Headword}
 use Rattle.words.specs.Line.{Reading, blank, spells, refused, reading}
 use Rattle.lists.specs.Listing.{fullest, Ending, clean, stops, Content, overfull}

@@ -1,5 +1,6 @@
 //! Word lists: what a list of words means, the lists over the bytes of a text and over rows, and what a list counts.
 #![tactic(auto)]
+
 pub mod counting;
 pub mod fault;
 pub mod list;

@@ -1,5 +1,6 @@
 //! Reads pattern texts, one a line, and writes each back as it was read, or its refusal.
 #![tactic(auto)]
+
 ghost use Rattle.text.specs.Written.{Wrote};
 ghost use Rattle.patterns.specs.Texts.{reading};
 ghost use Rattle.patterncheck.specs.Shown.{shown};

@@ -1,5 +1,5 @@
 -- Writing a text: one symbol and one value more, and the memory behind.
-use Rattle.std.proofs.Common.{◌≡◌, ℕ, zero, suc, ◌+◌, ◌-◌, ◌<◌, ◌≤◌, List, [], ◌∷◌, ◌++◌, length, get_or, take, drop, set, sym, refl, ap, ◌∙◌, ap₂, append_assoc, append-nil, add-zero, add-one, arith}
+use Rattle.std.proofs.Common.{◌≡◌, ℕ, zero, suc, ◌+◌, ◌<◌, ◌≤◌, List, [], ◌∷◌, ◌++◌, length, get_or, take, drop, set, sym, refl, ap, ◌∙◌, ap₂, append_assoc, append-nil, add-zero, add-one, arith}
 use native.Mathlib.Decide.{le_ind}
 use Rattle.std.proofs.lemmas.List.{set_at, length-append, drop_more, drop-set-lt, length_push, length-take-le}
 use Rattle.patterns.specs.Spellings.{longest}

@@ -1,11 +1,11 @@
 -- Why the reading of a text says in the subject's words what the text is: the theorem behind `Pattern::read`.
-use Rattle.std.proofs.Common.{◌≡◌, ℕ, zero, suc, ◌+◌, ◌-◌, ◌<◌, ◌≤◌, Bool, true, false, cond, ◌&&◌, ◌||◌, eqb, ltb, leb, ◌⊎◌, List, [], ◌∷◌, length, get_or, sym, refl, ap, ◌∙◌, subst, ap₂, inl, inr, ⊎_elim, add-one, arith}
-use Rattle.std.proofs.lemmas.Bool.{cases_lt, cases_Bool, leb-true, ltb-true, eqb-true, le-leb, lt-ltb, eq-eqb, and_parts, and_cases, and_from, or_cases, or_left, or_right, false≢true, both_ways}
-use Rattle.text.specs.Refusals.{Refused, at_byte}
+use Rattle.std.proofs.Common.{◌≡◌, ℕ, zero, suc, ◌+◌, ◌-◌, ◌<◌, ◌≤◌, Bool, true, false, cond, ◌&&◌, eqb, ltb, leb, List, length, get_or, sym, refl, ap, ◌∙◌, subst, ⊎_elim, add-one, arith}
+use Rattle.std.proofs.lemmas.Bool.{cases_lt, leb-true, ltb-true, eqb-true, le-leb, lt-ltb, eq-eqb, and_parts, and_cases, and_from, or_cases, or_left, or_right, false≢true, both_ways}
+use Rattle.text.specs.Refusals.{at_byte}
 use Rattle.patterns.specs.declared.reading.Piece.{Piece}
 use Rattle.patterns.specs.declared.reading.Piece.TheVariants.{Symbol, Digit, Other}
-use Rattle.patterns.specs.Spellings.{longest, any_above_zero, Spelled, Valid}
-use Rattle.patterns.specs.Texts.{piece_of, piece_at, is_digit, symbols_to, values_to, after_digit, shut, offends, offends_at, or_else, first_to, lacking, Reading, spells, refused, reading_by, reading, text_of}
+use Rattle.patterns.specs.Spellings.{longest, any_above_zero, Valid}
+use Rattle.patterns.specs.Texts.{piece_at, is_digit, symbols_to, values_to, after_digit, shut, offends, offends_at, or_else, first_to, lacking, Reading, spells, reading_by, reading}
 use Rattle.patterns.specs.Promises.{RoundTrips, Cause, neither, digit_after_digit, sixteenth, after_edge, FaultAt, offending, lacks, Judged}
 use Rattle.patterns.proofs.Spells.{inverse, sound}
 use Rattle.patterns.proofs.Round.{front_text, written_then_read}

@@ -1,5 +1,5 @@
 -- The order of spellings is a total order, and what it says.
-use Rattle.std.proofs.Common.{◌≡◌, ℕ, ◌<◌, Bool, true, false, cond, ltb, ◌⊎◌, List, [], ◌∷◌, ◌++◌, Ordering, Less, Equal, Greater, sym, refl, ap, ◌∙◌, subst, ap₂, inl, inr, ⊎_elim, arith}
+use Rattle.std.proofs.Common.{◌≡◌, ℕ, ◌<◌, true, ltb, ◌⊎◌, List, [], ◌∷◌, ◌++◌, Less, Equal, Greater, sym, refl, ap, ◌∙◌, subst, ap₂, inl, inr, ⊎_elim, arith}
 use Rattle.std.proofs.lemmas.Bool.{cases_order, lt-ltb, le-ltb, cond-true, cond-false, false≢true}
 use Rattle.std.specs.Ordering.{is_lt, ordering_reverse}
 use Rattle.patterns.specs.Order.{ordering, before, Begins, Smaller, TotalOrder}

@@ -1,16 +1,15 @@
 -- The two round trips: a text that was read is written back, and a pattern that was written is read back.
-use Rattle.std.proofs.Common.{◌≡◌, ℕ, zero, suc, ◌+◌, ◌-◌, ◌<◌, ◌≤◌, Bool, true, false, cond, ◌&&◌, ◌||◌, eqb, ltb, leb, ◌≢◌, ◌⊎◌, List, [], ◌∷◌, ◌++◌, length, get_or, take, drop, set, replicate, sym, refl, ap, ◌∙◌, subst, ap₂, subst₂, inl, inr, ⊎_elim, append_assoc, append-nil, add-zero, zero-add, add-one, arith, lit<}
+use Rattle.std.proofs.Common.{◌≡◌, ℕ, zero, suc, ◌+◌, ◌-◌, ◌<◌, ◌≤◌, Bool, true, false, cond, ◌&&◌, eqb, ltb, leb, ◌≢◌, List, [], ◌∷◌, ◌++◌, length, get_or, take, set, replicate, sym, refl, ap, ◌∙◌, subst, ap₂, subst₂, ⊎_elim, append_assoc, append-nil, add-zero, zero-add, add-one, arith, lit<}
 use mathlib.Core.Path.{subst₃}
 use Rattle.std.proofs.lemmas.List.{get_or_append_left, get_or_at, length_push, length-append, get_or_push, length-set, get_or-set_same, get_or-set_other, set-get_or, take_more, take_all, length-take-le, get_or-take, get_or_past, ext_get_or}
-use Rattle.std.proofs.lemmas.Bool.{cases_lt, cases_eq, le-leb, lt-leb, lt-ltb, le-ltb, ne_eqb, and_from, and_left, and_right, or_from, true≢false, cond-true, cond-false}
-use Rattle.text.specs.Refusals.{at_byte}
+use Rattle.std.proofs.lemmas.Bool.{cases_lt, cases_eq, le-leb, lt-leb, le-ltb, ne_eqb, and_from, and_left, and_right, or_from, true≢false, cond-true, cond-false}
 use Rattle.text.proofs.Padding.{zeros}
 use Rattle.words.specs.Words.{alphabet}
 use Rattle.patterns.specs.Spellings.{longest, places, highest, any_above_zero, Spelled, Valid}
 use Rattle.patterns.specs.Views.{spelled}
 use Rattle.patterns.specs.declared.reading.Piece.{Piece}
 use Rattle.patterns.specs.declared.reading.Piece.TheVariants.{Symbol, Digit, Other}
-use Rattle.patterns.specs.Texts.{digit, byte_of, text_to, text_of, piece_of, piece_at, symbol_in, with_value, is_digit, symbols_to, values_to, after_digit, shut, offends, offends_at, or_else, first_to, Reading, spells, refused, reading_by, lacking, reading}
+use Rattle.patterns.specs.Texts.{digit, byte_of, text_to, text_of, piece_of, piece_at, symbol_in, with_value, symbols_to, values_to, after_digit, shut, offends, offends_at, or_else, first_to, spells, reading_by, lacking, reading}
 use Rattle.patterns.specs.declared.pattern.Pattern.{Pattern}
 use Rattle.patterns.proofs.Bytes.{digit_le}
 use Rattle.patterns.proofs.Spells.{Front, front_none, front_more, Sound, sound, bytes, Bytes, inverse, no_offence}

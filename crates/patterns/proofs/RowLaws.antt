@@ -1,5 +1,5 @@
 -- The laws of joining rows by the greater value at each place.
-use Rattle.std.proofs.Common.{◌≡◌, ℕ, zero, suc, ◌<◌, ◌≤◌, max, true, false, not, List, [], ◌∷◌, length, get_or, replicate, sym, refl, ap, ap₂, arith}
+use Rattle.std.proofs.Common.{◌≡◌, ℕ, zero, suc, ◌≤◌, max, true, not, List, [], ◌∷◌, length, get_or, replicate, sym, refl, ap, ap₂, arith}
 use mathlib.Core.HLevel.{Π_prop, is_prop→PathP}
 use native.Mathlib.Bridge.{le_prop}
 use native.Mathlib.Nat.{ℕ_set}

@@ -1,16 +1,16 @@
 -- Reading a text byte by byte: what a front without fault spells, and what the reader's loop holds.
-use Rattle.std.proofs.Common.{◌≡◌, ℕ, zero, suc, ◌+◌, ◌-◌, ◌<◌, ◌≤◌, Bool, true, false, cond, ◌&&◌, ◌||◌, eqb, ltb, leb, ◌≢◌, ◌⊎◌, List, [], ◌∷◌, ◌++◌, length, get_or, take, set, replicate, sym, refl, ap, ◌∙◌, subst, ap₂, subst₂, inl, inr, ⊎_elim, append_assoc, append-nil, add-zero, add-one, arith}
+use Rattle.std.proofs.Common.{◌≡◌, ℕ, zero, suc, ◌+◌, ◌-◌, ◌<◌, ◌≤◌, Bool, true, false, cond, ◌&&◌, ◌||◌, eqb, ltb, leb, ◌≢◌, List, [], ◌∷◌, ◌++◌, length, get_or, take, set, replicate, sym, refl, ap, ◌∙◌, subst, ap₂, subst₂, ⊎_elim, append-nil, add-one, arith}
 use mathlib.Core.Path.{subst₃}
 use native.Mathlib.Decide.{le_ind}
-use Rattle.std.proofs.lemmas.List.{set_at, get_or_append_left, get_or-append_right, get_or_past, length_push, get_or_push, length-set, get_or-set_same, get_or-set_other, take_at, take_more, nil_from_length}
-use Rattle.std.proofs.lemmas.Bool.{cond_both, cases_lt, cases_eq, leb-true, leb-false, le-leb, lt-leb, lt-ltb, le-ltb, eqb-true, eqb-false, and_parts, or_parts, and_cases, false≢true, true≢false, cond-true, ltb-false}
+use Rattle.std.proofs.lemmas.List.{get_or_append_left, get_or_past, length_push, length-set, get_or-set_same, get_or-set_other, take_at, nil_from_length}
+use Rattle.std.proofs.lemmas.Bool.{cond_both, cases_lt, cases_eq, leb-true, leb-false, eqb-true, eqb-false, and_parts, or_parts, and_cases, false≢true, true≢false, ltb-false}
 use Rattle.text.specs.Refusals.{at_byte}
 use Rattle.text.proofs.Padding.{zeros, pad_set, pad_get}
 use Rattle.words.specs.Words.{alphabet}
-use Rattle.patterns.specs.Spellings.{longest, places, highest, any_above_zero, Spelled}
+use Rattle.patterns.specs.Spellings.{longest, places, highest, any_above_zero}
 use Rattle.patterns.specs.declared.reading.Piece.{Piece}
 use Rattle.patterns.specs.declared.reading.Piece.TheVariants.{Symbol, Digit, Other}
-use Rattle.patterns.specs.Texts.{digit, byte_of, text_to, piece_of, piece_at, symbol_in, with_value, is_digit, symbols_to, values_to, after_digit, shut, offends, offends_at, or_else, first_to, Reading, spells, refused, reading_by, lacking, reading}
+use Rattle.patterns.specs.Texts.{digit, byte_of, piece_of, piece_at, symbol_in, with_value, is_digit, symbols_to, values_to, after_digit, shut, offends, offends_at, or_else, first_to, spells, refused, reading_by, lacking, reading}
 
 -- ---- some number above 0
 

@@ -1,5 +1,5 @@
 -- What pattern text means, in the words of the subject.
-use Rattle.std.specs.Prelude.{◌≡◌, ℕ, suc, ◌+◌, ◌<◌, ◌≤◌, true, false, ◌⊎◌, List, length, slice_index}
+use Rattle.std.specs.Prelude.{◌≡◌, ℕ, suc, ◌+◌, ◌<◌, false, ◌⊎◌, List, length, slice_index}
 use Rattle.text.specs.Refusals.{Refused, at_byte}
 use Rattle.patterns.specs.declared.reading.Piece.TheVariants.{Symbol, Digit, Other}
 use Rattle.patterns.specs.Spellings.{longest, any_above_zero, Spelled, Valid}

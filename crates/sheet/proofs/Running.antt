@@ -1,14 +1,14 @@
 -- From a sheet and the counts of its list to the outcome of a run.
-use Rattle.std.proofs.Common.{◌≡◌, ℕ, Bool, List, length, Ok, Err, Result, sym, refl, ap, ◌∙◌, ap₂, inl, inr}
+use Rattle.std.proofs.Common.{◌≡◌, ℕ, Bool, List, Ok, Err, sym, ap, ◌∙◌, ap₂}
 use Rattle.words.specs.Words.{Headword}
 use Rattle.lists.specs.declared.counting.ListCounts.{ListCounts}
 use Rattle.lists.specs.declared.fault.ListFault.{ListFault}
 use Rattle.lists.specs.Faults.{list_refused}
-use Rattle.lists.specs.Listing.{Ending, Content}
+use Rattle.lists.specs.Listing.{Ending}
 use Rattle.lists.specs.Texts.{text_content}
 use Rattle.lists.specs.Calls.{Counted}
-use Rattle.sheet.specs.Sheets.{Sheeted, sheet, sheet_of}
-use Rattle.sheet.specs.Outcomes.{Outcome, counts, refuses, counted_by, words_outcome, checked_by, checked}
+use Rattle.sheet.specs.Sheets.{sheet, sheet_of}
+use Rattle.sheet.specs.Outcomes.{counts, refuses, counted_by, words_outcome, checked_by, checked}
 
 by_ok : (left right : ℕ) (words : List Headword) (ending : Ending) (c : ListCounts) → Counted left right words ending (Ok c) → counts c.words c.hyphens ≡ counted_by left right words ending
 by_ok left right words ending c h = ap₂ counts h.1 h.2 ∙ ap (counted_by left right words) (sym h.0)

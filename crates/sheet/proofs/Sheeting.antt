@@ -1,5 +1,5 @@
 -- What a sheet comes to, by what was found in it.
-use Rattle.std.proofs.Common.{◌≡◌, ℕ, ◌+◌, ◌<◌, ◌≤◌, Bool, true, false, cond, not, ◌&&◌, ◌||◌, ltb, leb, ◌⊎◌, List, [], ◌∷◌, length, get_or, drop, is_some, Some, Ok, Err, Option, unwrap_or, sym, refl, ap, ◌∙◌, ap₂, inl, inr, ⊎_elim}
+use Rattle.std.proofs.Common.{◌≡◌, ℕ, ◌+◌, ◌<◌, ◌≤◌, Bool, true, false, not, ◌&&◌, ◌||◌, ltb, leb, ◌⊎◌, List, [], ◌∷◌, length, get_or, is_some, Some, Ok, Err, Option, unwrap_or, sym, ap, ◌∙◌, ⊎_elim}
 use Rattle.std.proofs.lemmas.Bool.{cond-true, cond-false, or_left, or_right, or_from, lt-ltb, le-ltb, le-leb, leb-true, and_from, and_parts, cases_Bool, not_from_true, not_from_false}
 use Rattle.text.specs.declared.cursor.Lines.{Lines}
 use Rattle.text.specs.Refusals.{bare, at_line}
@@ -9,8 +9,8 @@ use Rattle.text.specs.Figures.{pieces, figures_of}
 use Rattle.words.specs.Words.{InRange, widest}
 use Rattle.sheet.specs.declared.fault.SheetFault.{SheetFault}
 use Rattle.sheet.specs.Faults.{sheet_refused}
-use Rattle.sheet.specs.Sheets.{largest, first_empty, has_figures, figures_in, in_range, Sheeted, sheet, wrong, ranged_by, sheet_by, sheet_of}
-use Rattle.sheet.specs.Taken.{Passed, FiguresTaken, EmptyTaken}
+use Rattle.sheet.specs.Sheets.{largest, first_empty, has_figures, in_range, sheet, wrong, ranged_by, sheet_by, sheet_of}
+use Rattle.sheet.specs.Taken.{FiguresTaken, EmptyTaken}
 
 -- ---- the size of the input
 

@@ -1,11 +1,11 @@
 -- What the program answers, and the line that says it.
-use Rattle.std.specs.Prelude.{ℕ, Bool, List, [], ◌∷◌, ◌++◌, length, codes}
+use Rattle.std.specs.Prelude.{ℕ, Bool, List, [], ◌∷◌, length, codes}
 use Rattle.std.proofs.Common.{inl, inr}
 use Rattle.text.specs.Refusals.{Refused}
 use Rattle.text.specs.Written.{line_of}
 use Rattle.words.specs.Counting.{sum_of}
 use Rattle.words.specs.Words.{Headword, hyphens_in_bounds}
-use Rattle.lists.specs.Listing.{Ending, Content}
+use Rattle.lists.specs.Listing.{Ending}
 use Rattle.lists.specs.Texts.{text_content}
 use Rattle.sheet.specs.Sheets.{Sheeted, sheet, wrong, sheet_of}
 

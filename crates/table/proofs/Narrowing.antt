@@ -1,9 +1,8 @@
 -- Halving the rows among which the place of a spelling lies.
-use Rattle.std.proofs.Common.{◌≡◌, ℕ, ◌+◌, ◌<◌, ◌≤◌, Bool, true, false, List, length, get_or, Some, Option, Ordering, sym, ap, ◌∙◌, subst, ⊎_elim, arith}
-use Rattle.std.specs.Ordering.{is_lt, is_some_and}
+use Rattle.std.proofs.Common.{◌≡◌, ℕ, ◌+◌, ◌<◌, ◌≤◌, Bool, true, false, List, length, get_or, sym, ap, ◌∙◌, subst, ⊎_elim, arith}
 use Rattle.std.proofs.lemmas.Bool.{cases_Bool, cases_eq, true≢false}
 use Rattle.patterns.specs.declared.pattern.Pattern.{Pattern}
-use Rattle.patterns.specs.Order.{ordering, before}
+use Rattle.patterns.specs.Order.{before}
 use Rattle.patterns.specs.Views.{symbols_of}
 use Rattle.patterns.proofs.Ordered.{total_order}
 use Rattle.table.specs.Rows.{key_at, InOrder}

@@ -1,5 +1,5 @@
 -- Counting the ones of masked marks counts the positions of the mask that have a hyphen.
-use Rattle.std.proofs.Common.{◌≡◌, ℕ, zero, suc, ◌+◌, ◌-◌, ◌*◌, ◌/◌, ◌%◌, ◌^◌, ◌<◌, ◌≤◌, Bool, true, false, cond, eqb, List, [], ◌∷◌, length, sym, refl, ap, ◌∙◌, ap₂, ⊎_elim, add-zero, add_comm, pow-suc, add-one, arith, pow_pos, shr-shr}
+use Rattle.std.proofs.Common.{◌≡◌, ℕ, zero, suc, ◌+◌, ◌-◌, ◌*◌, ◌/◌, ◌%◌, ◌^◌, ◌<◌, ◌≤◌, Bool, true, false, eqb, sym, ap, ◌∙◌, ap₂, ⊎_elim, add-zero, add_comm, pow-suc, add-one, arith, pow_pos, shr-shr}
 use native.Mathlib.Nat.{mod-one}
 use lib.Count.{ones, ones_step, ones_cat}
 use lib.Bits.{bit_and, and_high}

@@ -1,16 +1,16 @@
 -- Why the reading of a line says in the subject's words what the line is: the theorem behind `read_line`.
-use Rattle.std.proofs.Common.{◌≡◌, ℕ, zero, suc, ◌+◌, ◌-◌, ◌*◌, ◌/◌, ◌%◌, ◌^◌, ◌<◌, ◌≤◌, Bool, true, false, cond, eqb, ltb, leb, ◌⊎◌, List, [], ◌∷◌, ◌++◌, length, get_or, take, drop, sym, refl, ap, ◌∙◌, subst, ap₂, inl, inr, ⊎_elim, append-nil, lt_of_lt_of_le, add-zero, pow-suc, add-one, arith, pow_pos, pow_mono, pow-add}
+use Rattle.std.proofs.Common.{◌≡◌, ℕ, zero, suc, ◌+◌, ◌-◌, ◌*◌, ◌/◌, ◌%◌, ◌^◌, ◌<◌, ◌≤◌, Bool, true, false, cond, ltb, leb, ◌⊎◌, List, [], ◌∷◌, ◌++◌, length, get_or, take, drop, sym, refl, ap, ◌∙◌, subst, ap₂, inl, inr, ⊎_elim, append-nil, lt_of_lt_of_le, add-zero, pow-suc, add-one, arith, pow_pos, pow_mono, pow-add}
 use native.Mathlib.Nat.{add-div_right, add-mul-div_right, div-eq_of_lt, zero-div}
 use native.Mathlib.Decide.{le_ind}
-use Rattle.std.proofs.lemmas.List.{get_or_append_left, get_or_at, get_or-take, get_or_past, length-take-le, length-append, length_push, take-append-drop, take_all}
+use Rattle.std.proofs.lemmas.List.{get_or_append_left, get_or_at, get_or-take, get_or_past, length-take-le, length-append, take-append-drop, take_all}
 use Rattle.std.proofs.lemmas.Bool.{cases_lt, cases_Bool, cases_order, ltb-true, ltb-false, leb-true, leb-false, eqb-true, eq-eqb, false≢true, both_ways}
 use Rattle.words.specs.declared.line.Kind.{Kind}
 use Rattle.words.specs.declared.line.Kind.TheVariants.{Letter, Mark, Other}
 use Rattle.text.specs.Refusals.{at_byte}
-use Rattle.words.specs.Words.{Headword, bit, hyphen, longest}
-use Rattle.words.specs.Line.{kind_of, kind_at, symbols_of, is_letter, bit_of, letters_to, marks_to, after_letter, fault_of, fault_at, First, none, fault, first_of, or_else, first_to, reading, reading_by, Reading, blank, spells, refused}
+use Rattle.words.specs.Words.{bit, hyphen, longest}
+use Rattle.words.specs.Line.{kind_of, kind_at, symbols_of, is_letter, bit_of, letters_to, marks_to, after_letter, fault_of, fault_at, First, none, fault, first_of, or_else, first_to, reading, reading_by}
 use Rattle.words.specs.Grammar.{LetterAt, MarkAt, HyphenAt, BetweenLetters, Formed, WordLine, WordOf, Hopeful, Spent, Cause, no_letter, loose_mark, too_long, FaultAt, Judged}
-use Rattle.words.proofs.Reading.{letters_more, after_more, inverse, fault_zero, ends, sound, slack}
+use Rattle.words.proofs.Reading.{after_more, inverse, fault_zero, ends, sound, slack}
 
 -- ---- the bytes of a front without fault
 

@@ -1,16 +1,16 @@
 -- The reader's loop: what holds after i bytes, what a byte of each kind does, and what the whole line comes to.
-use Rattle.std.proofs.Common.{◌≡◌, ℕ, zero, suc, ◌+◌, ◌-◌, ◌*◌, ◌/◌, ◌%◌, ◌^◌, ◌<◌, ◌≤◌, Bool, true, false, cond, ◌&&◌, ◌||◌, eqb, ltb, leb, ◌⊎◌, List, [], ◌∷◌, ◌++◌, length, get_or, take, set, replicate, sym, refl, ap, ◌∙◌, subst, ap₂, subst₂, inl, inr, ⊎_elim, append_assoc, append-nil, add-zero, add_comm, one-mul, pow-suc, add-one, arith, lit<, pow_mono, pow-add}
+use Rattle.std.proofs.Common.{◌≡◌, ℕ, zero, suc, ◌+◌, ◌-◌, ◌%◌, ◌^◌, ◌<◌, ◌≤◌, Bool, true, false, cond, ◌&&◌, ◌||◌, eqb, leb, List, [], ◌∷◌, ◌++◌, length, get_or, take, set, replicate, sym, refl, ap, ◌∙◌, subst, ap₂, subst₂, ⊎_elim, append-nil, add-zero, add_comm, one-mul, pow-suc, add-one, arith, lit<, pow_mono, pow-add}
 use mathlib.Core.Path.{subst₃}
 use native.Mathlib.Decide.{le_ind}
 use lib.Bits.{bit_or, or_shifted_r, or_zero_r}
-use Rattle.std.proofs.lemmas.List.{set_at, get_or_append_left, get_or-append_right, length_push, get_or_push, length-append, length-replicate, take_at}
+use Rattle.std.proofs.lemmas.List.{get_or_append_left, get_or-append_right, length_push, get_or_push, length-append, length-replicate, take_at}
 use Rattle.std.proofs.lemmas.Bool.{cond_both, cases_lt, leb-true, le-leb, lt-leb, lt-ltb, and_parts, false≢true, cond-true}
 use Rattle.words.specs.declared.line.Kind.{Kind}
 use Rattle.words.specs.declared.line.Kind.TheVariants.{Letter, Mark, Other}
 use Rattle.text.specs.Refusals.{at_byte}
 use Rattle.text.proofs.Padding.{zeros, pad_set}
-use Rattle.words.specs.Words.{Headword, alphabet, longest}
-use Rattle.words.specs.Line.{kind_of, kind_at, symbols_of, is_letter, bit_of, letters_to, marks_to, after_letter, fault_of, fault_at, First, none, fault, first_of, or_else, first_to, reading, reading_by, Reading, blank, spells, refused}
+use Rattle.words.specs.Words.{alphabet, longest}
+use Rattle.words.specs.Line.{kind_of, kind_at, symbols_of, is_letter, bit_of, letters_to, marks_to, after_letter, fault_of, fault_at, First, none, fault, first_of, or_else, first_to, reading, reading_by, spells, refused}
 
 -- ---- one byte more
 

@@ -1,5 +1,4 @@
 -- The refusals of words and bounds: each case of a fault, with its number and values.
-use Rattle.std.specs.Prelude.{ℕ}
 use Rattle.text.specs.Refusals.{Refused, bare, at_byte}
 use Rattle.words.specs.declared.line.LineFault.{LineFault}
 use Rattle.words.specs.declared.line.LineFault.TheVariants.{NoLetter, LooseMark, TooLong}

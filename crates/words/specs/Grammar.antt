@@ -1,7 +1,6 @@
 -- What a word line is, in the words of the subject, and where the fault of another line stands.
-use Rattle.std.specs.Prelude.{◌≡◌, ℕ, ◌+◌, ◌-◌, ◌<◌, ◌≤◌, Bool, true, false, ◌⊎◌, List, [], ◌∷◌, ◌++◌, length, take}
-use Rattle.words.specs.declared.line.Kind.{Kind}
-use Rattle.words.specs.declared.line.Kind.TheVariants.{Letter, Mark, Other}
+use Rattle.std.specs.Prelude.{◌≡◌, ℕ, ◌+◌, ◌-◌, ◌<◌, ◌≤◌, Bool, true, ◌⊎◌, List, [], ◌++◌, length, take}
+use Rattle.words.specs.declared.line.Kind.TheVariants.{Mark, Other}
 use Rattle.text.specs.Refusals.{Refused, at_byte}
 use Rattle.words.specs.Words.{Headword, hyphen, longest}
 use Rattle.words.specs.Line.{kind_at, is_letter, letters_to, Reading, blank, spells, refused}

@@ -1,5 +1,5 @@
 -- When a row of numbers makes a word.
-use Rattle.std.specs.Prelude.{◌≡◌, ℕ, zero, suc, ◌%◌, ◌^◌, ◌<◌, ◌≤◌, Bool, true, false, cond, ◌&&◌, List, take, Some, None, Option, ◌==◌, nat_le, nat_lt, slice_index}
+use Rattle.std.specs.Prelude.{◌≡◌, ℕ, zero, suc, ◌%◌, ◌^◌, ◌<◌, ◌≤◌, Bool, true, false, ◌&&◌, List, take, Some, None, Option, ◌==◌, nat_le, nat_lt, slice_index}
 use Rattle.words.specs.declared.word.Word.{Word}
 use Rattle.words.specs.declared.row.WordRow.{WordRow}
 use Rattle.words.specs.Words.{Headword, alphabet, longest}

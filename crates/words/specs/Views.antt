@@ -1,5 +1,5 @@
 -- What the values of the code mean.
-use Rattle.std.specs.Prelude.{ℕ, List, take, Some, None, Ok, Err, Option, Result}
+use Rattle.std.specs.Prelude.{take, Some, None, Ok, Err, Option, Result}
 use Rattle.words.specs.declared.word.Word.{Word}
 use Rattle.words.specs.declared.line.LineFault.{LineFault}
 use Rattle.words.specs.Words.{Headword}

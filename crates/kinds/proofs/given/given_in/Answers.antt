@@ -1,4 +1,4 @@
-use Rattle.std.proofs.Common.{◌≡◌, ℕ, suc, ◌+◌, ◌-◌, ◌%◌, Bool, eqb, length, get_or, take, sym, ap, ◌∙◌, arith}
+use Rattle.std.proofs.Common.{◌≡◌, ℕ, suc, ◌-◌, ◌%◌, eqb, length, take, sym, ap, ◌∙◌, arith}
 use Rattle.words.specs.Counting.{one}
 use Rattle.words.specs.Views.{headword}
 use Rattle.words.proofs.Bits.{digit}

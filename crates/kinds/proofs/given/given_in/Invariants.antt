@@ -1,4 +1,3 @@
-use Rattle.std.proofs.Common.{◌≤◌}
 use Rattle.words.specs.Views.{headword}
 use Rattle.kinds.specs.Kinds.{given as is_given}
 use Rattle.kinds.proofs.Masks.{Setting}

@@ -1,8 +1,8 @@
-use Rattle.std.proofs.Common.{◌≡◌, ℕ, suc, ◌+◌, ◌-◌, ◌^◌, ◌<◌, Bool, not, ◌&&◌, length, take, sym, ap, ◌∙◌, ap₂, arith}
+use Rattle.std.proofs.Common.{◌≡◌, ℕ, suc, ◌-◌, ◌^◌, ◌<◌, Bool, not, ◌&&◌, length, take, ap, ◌∙◌, ap₂, arith}
 use lib.Bits.{bit_and, and_comm, and_le_l}
 use lib.Count.{ones}
 use Rattle.words.specs.Counting.{count, numbers}
-use Rattle.words.specs.Words.{Headword, hyphen, positions, bits_of}
+use Rattle.words.specs.Words.{Headword, hyphen, bits_of}
 use Rattle.words.specs.Views.{headword}
 use Rattle.words.proofs.Bits.{ones_mask}
 use Rattle.patterns.proofs.Cutting.{letters_length}

@@ -1,4 +1,4 @@
-use Rattle.std.proofs.Common.{◌≡◌, ℕ, max, get_or, ap, ◌∙◌, arith}
+use Rattle.std.proofs.Common.{max, get_or, ap, ◌∙◌, arith}
 use Rattle.kinds.proofs.Starting.{lifted}
 use Rattle.kinds.proofs.values.lift.Goals as goal
 

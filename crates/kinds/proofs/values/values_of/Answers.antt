@@ -1,8 +1,8 @@
-use Rattle.std.proofs.Common.{◌≡◌, ℕ, ◌+◌, length, get_or, sym, refl, ◌∙◌, subst, arith}
+use Rattle.std.proofs.Common.{ℕ, sym, refl, ◌∙◌, subst, arith}
 use Rattle.text.proofs.Padding.{zeros}
 use Rattle.words.specs.Views.{headword}
 use Rattle.patterns.proofs.Cutting.{letters_length}
-use Rattle.books.specs.Rule.{Greatest, value}
+use Rattle.books.specs.Rule.{Greatest}
 use Rattle.books.proofs.Ruling.{maximum_rule}
 use Rattle.kinds.specs.Gaps.{gap_count}
 use Rattle.kinds.proofs.Starting.{starts_more, starts_all}

@@ -1,4 +1,4 @@
-use Rattle.std.proofs.Common.{◌≡◌, ◌+◌, ◌-◌, ◌*◌, ◌≤◌, length, drop}
+use Rattle.std.proofs.Common.{◌≡◌, ◌+◌, ◌*◌, ◌≤◌, length, drop}
 use Rattle.words.specs.Counting.{sum_of}
 use Rattle.words.specs.Words.{hyphens_in_bounds}
 use Rattle.lists.proofs.counting.count_list.Given as goal

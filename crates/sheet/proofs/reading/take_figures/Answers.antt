@@ -1,4 +1,4 @@
-use Rattle.std.proofs.Common.{◌≡◌, false, [], get_or, sym, refl, ◌∙◌}
+use Rattle.std.proofs.Common.{◌≡◌, false, [], get_or, sym, refl}
 use Rattle.text.specs.Lines.{lines_of}
 use Rattle.text.specs.Cursor.{unread}
 use Rattle.sheet.specs.Sheets.{has_figures}

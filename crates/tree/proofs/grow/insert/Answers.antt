@@ -1,6 +1,5 @@
 use Rattle.std.proofs.Common.{refl, ap}
 use Rattle.tree.specs.declared.cell.Link.{Link}
-use Rattle.tree.specs.Cells.{links, values}
 use Rattle.tree.proofs.Puts.{kept, link_new, link_old, link_other, part_same}
 use Rattle.tree.proofs.grow.insert.Goals as goal
 

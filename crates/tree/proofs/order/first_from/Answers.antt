@@ -1,6 +1,5 @@
 use Rattle.std.proofs.Common.{◌≡◌, ◌+◌, ◌<◌, false, length, get_or, set, sym, ap, ◌∙◌, subst, arith}
 use Rattle.tree.specs.declared.cell.Link.{Link}
-use Rattle.tree.specs.Cells.{at}
 use Rattle.tree.specs.Paths.{spelling_at}
 use Rattle.tree.specs.Descents.{value_at}
 use Rattle.tree.specs.Meanings.{meaning}

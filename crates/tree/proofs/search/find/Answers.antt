@@ -1,5 +1,5 @@
 use Rattle.std.proofs.Common.{◌≡◌, ◌+◌, take, sym, refl, ap, ◌∙◌, arith, take_all}
-use Rattle.tree.specs.Cells.{links, ups, at}
+use Rattle.tree.specs.Cells.{links, ups}
 use Rattle.tree.specs.Paths.{path}
 use Rattle.tree.proofs.Paths.{path_root, path_inj, lost, further}
 use Rattle.tree.proofs.search.find.Goals as goal

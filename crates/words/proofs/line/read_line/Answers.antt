@@ -1,10 +1,10 @@
-use Rattle.std.proofs.Common.{◌≡◌, ℕ, ◌+◌, ◌<◌, ◌≤◌, Bool, true, false, cond, eqb, List, [], length, sym, refl, ap, ◌∙◌, subst, arith}
+use Rattle.std.proofs.Common.{◌≡◌, ℕ, ◌+◌, ◌<◌, Bool, true, false, cond, eqb, List, [], length, sym, refl, ap, ◌∙◌, subst, arith}
 use Rattle.std.proofs.lemmas.List.{nil_from_length}
 use Rattle.std.proofs.lemmas.Bool.{cond-false, le-ltb, le-leb, eqb-true, eqb-false}
 use Rattle.words.specs.declared.line.Kind.TheVariants.{Letter, Mark, Other}
 use Rattle.words.specs.Line.{reading, Reading, blank}
 use Rattle.words.specs.Grammar.{Judged}
-use Rattle.words.proofs.Reading.{At, at_start, at_same, turn_letter, turn_mark, fault_is, refused_at, end_len, end_letters, end_rest, end_low, end_even, end_full, end_spells}
+use Rattle.words.proofs.Reading.{at_start, at_same, turn_letter, turn_mark, fault_is, refused_at, end_len, end_letters, end_rest, end_low, end_even, end_full, end_spells}
 use Rattle.words.proofs.Judging.{judged}
 use Rattle.words.proofs.line.read_line.Goals as goal
 use Rattle.words.proofs.line.read_line.Goals.{in-Letter+else-len-ge-LONGEST, in-Mark+else-not-after_letter+else-column-bytes}

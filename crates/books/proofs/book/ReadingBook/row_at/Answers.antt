@@ -1,4 +1,4 @@
-use Rattle.std.proofs.Common.{◌≡◌, ℕ, List, get_or, sym, ap, ◌∙◌, arith}
+use Rattle.std.proofs.Common.{ℕ, List, get_or, ap, ◌∙◌, arith}
 use Rattle.words.specs.Views.{headword}
 use Rattle.patterns.specs.declared.pattern.Row.{Row}
 use Rattle.patterns.specs.Views.{symbols_of}

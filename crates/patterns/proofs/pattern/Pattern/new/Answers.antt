@@ -1,8 +1,8 @@
-use Rattle.std.proofs.Common.{◌≡◌, ℕ, zero, suc, ◌+◌, ◌-◌, ◌<◌, ◌≤◌, Bool, true, false, not, ◌&&◌, List, [], ◌∷◌, length, get_or, take, drop, sym, refl, ap, ◌∙◌, ap₂, add-one, arith}
+use Rattle.std.proofs.Common.{◌≡◌, ℕ, zero, suc, ◌+◌, ◌-◌, false, not, List, [], ◌∷◌, length, get_or, take, drop, sym, refl, ap, ◌∙◌, arith}
 use Rattle.std.proofs.lemmas.List.{take_all, length-drop, length-take-le, get_or-drop}
 use Rattle.std.proofs.lemmas.Bool.{true≢false, and_left, and_right, and_from}
 use Rattle.patterns.specs.declared.pattern.Spelling.{Spelling}
-use Rattle.patterns.specs.Spellings.{places, any_above_zero, fits_row}
+use Rattle.patterns.specs.Spellings.{places, any_above_zero}
 use Rattle.patterns.specs.Views.{symbols_of}
 use Rattle.patterns.proofs.pattern.Pattern.new.Goals as goal
 use Rattle.patterns.proofs.pattern.Pattern.new.Goals.{then-not-any_above-via-then-not-any_above, then-not-any_above-via-else-not-any_above+then-any_above}

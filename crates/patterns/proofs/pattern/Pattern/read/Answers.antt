@@ -1,9 +1,9 @@
-use Rattle.std.proofs.Common.{◌≡◌, ◌+◌, Bool, true, false, ◌&&◌, length, sym, refl, ap, ◌∙◌, ap₂, arith}
+use Rattle.std.proofs.Common.{◌≡◌, ◌+◌, length, sym, refl, ◌∙◌, arith}
 use Rattle.std.proofs.lemmas.Bool.{and_left, and_right, and_from}
 use Rattle.patterns.specs.Spellings.{any_above_zero}
 use Rattle.patterns.specs.declared.reading.Piece.TheVariants.{Symbol, Digit, Other}
 use Rattle.patterns.specs.Texts.{symbols_to, values_to, first_to, after_digit}
-use Rattle.patterns.proofs.Spells.{At, at_same, at_sound, shut_is, turn_symbol, turn_digit, refused_at, end_lacks, end_spelt, end_edged, end_symbolic, end_padded, end_within, end_len}
+use Rattle.patterns.proofs.Spells.{at_same, at_sound, shut_is, turn_symbol, turn_digit, refused_at, end_lacks, end_spelt, end_edged, end_symbolic, end_padded, end_within, end_len}
 use Rattle.patterns.proofs.Judging.{judged_as}
 use Rattle.patterns.proofs.pattern.Pattern.read.Goals as goal
 use Rattle.patterns.proofs.pattern.Pattern.read.Goals.{in-Symbol+else-is_shut, in-Digit+else-after_digit, then-not-any_above-via-then-not-any_above, then-not-any_above-via-else-not-any_above+then-not-any_above-2}

@@ -1,9 +1,9 @@
-use Rattle.std.proofs.Common.{◌≡◌, ℕ, ◌+◌, ◌<◌, ◌≤◌, List, ◌++◌, length, get_or, drop, sym, refl, ap, ◌∙◌, ap₂, arith, rules}
+use Rattle.std.proofs.Common.{◌≡◌, ℕ, ◌+◌, ◌≤◌, List, ◌++◌, length, get_or, drop, sym, refl, ap, ◌∙◌, ap₂, arith}
 use Rattle.patterns.specs.Spellings.{longest}
 use Rattle.std.proofs.lemmas.List.{length-set, get_or-take}
 use Rattle.patterns.specs.Texts.{text_to, text_of, byte_of, digit}
 use Rattle.patterns.specs.Views.{symbols_of, spelled}
-use Rattle.patterns.proofs.Bytes.{len_more, digit_le, len_mono, room, write_step, digit_first, digit_behind, symbols_length}
+use Rattle.patterns.proofs.Bytes.{len_mono, room, write_step, digit_first, digit_behind, symbols_length}
 use Rattle.patterns.proofs.Round.{written_then_read, valid_of}
 use Rattle.patterns.proofs.Judging.{round_trips}
 use Rattle.patterns.proofs.pattern.Pattern.write.Goals as goal

@@ -1,4 +1,4 @@
-use Rattle.std.proofs.Common.{◌≡◌, ℕ, ◌+◌, ◌-◌, List, length, take, drop, sym, refl, ap, ◌∙◌, subst, arith}
+use Rattle.std.proofs.Common.{ℕ, ◌-◌, take, drop, sym, refl, subst}
 use Rattle.std.proofs.lemmas.List.{drop_all}
 use Rattle.text.specs.Lines.{Begins}
 use Rattle.text.proofs.Splitting.{begins_lines, ends_at_feed, ends_with_text}
