@@ -3,6 +3,7 @@
 //! positions, and how many of them are found, wrong and missed; or the refusal of the first raise that is refused. Each case is
 //! tried on a table and on a tree, which must answer alike.
 #![tactic(auto)]
+
 use anyhow::{Context, anyhow};
 use books::book::{ReadingBook, WritingBook};
 use kinds::kind::{KindCounts, count_kinds};

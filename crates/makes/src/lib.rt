@@ -109,8 +109,8 @@ mod tests {
         assert!(rt; book.raise(&read(b"a2b3")?).is_ok());
         assert_eq!(rt; book.count(), 1);
         let row = book.row(&read(b"a1b")?.spelling);
-        assert_eq!(rt; row.values[1], 2);
-        assert_eq!(rt; row.values[2], 3);
+        assert!(rt; row.values[1] == 2);
+        assert!(rt; row.values[2] == 3);
         book.empty();
         assert_eq!(rt; book.count(), 0);
         assert!(rt; book.raise(&read(b"c1")?).is_ok());

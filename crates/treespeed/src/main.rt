@@ -1,6 +1,7 @@
 //! Raises pattern texts, one a line, in a tree book and looks each up again, and writes how many spellings are held and the sum of
 //! the values found. How long both took goes to the standard error.
 #![tactic(auto)]
+
 use anyhow::anyhow;
 use books::book::{Full, ReadingBook, WritingBook};
 use makes::treebook::TreeBook;
