@@ -3,7 +3,7 @@ use Rattle.std.proofs.Common.{◌≡◌, ℕ, suc, Bool, true, false, cond, ◌|
 use Rattle.std.proofs.lemmas.Bool.{cases_Bool, true≢false, false≢true, cond-true, cond-false}
 use Rattle.std.proofs.ByRecursion.{All-weaker}
 use Rattle.std.specs.Ordering.{is_lt, is_eq, ordering_reverse}
-use Rattle.std.specs.List.{AllByRecursion as All}
+use Rattle.std.specs.List.{AllByRecursion}
 use Rattle.patterns.specs.Order.{ordering, before}
 use Rattle.patterns.proofs.Ordered.{total_order}
 use Rattle.books.specs.Maps.{Map, Ascending, same, holds, lookup, by, raised, Joined}
@@ -63,12 +63,12 @@ stand u v = go (ordering u v) refl where
 
 module _ {V : Type 0} (nothing : V) where
   -- a spelling that comes before all is not held
-  pub lookup_before : (m : Map V) (u : List ℕ) → All (λ f. before u f.0 ≡ true) m → lookup nothing m u ≡ nothing
+  pub lookup_before : (m : Map V) (u : List ℕ) → AllByRecursion (λ f. before u f.0 ≡ true) m → lookup nothing m u ≡ nothing
   lookup_before [] u a = refl
   lookup_before (e ∷ m) u a = cond-false (same u e.0) _ _ (before_apart u e.0 a.0) ∙ lookup_before m u a.1
 
   -- nor is one that comes after all
-  pub lookup_behind : (m : Map V) (u : List ℕ) → All (λ f. before f.0 u ≡ true) m → lookup nothing m u ≡ nothing
+  pub lookup_behind : (m : Map V) (u : List ℕ) → AllByRecursion (λ f. before f.0 u ≡ true) m → lookup nothing m u ≡ nothing
   lookup_behind [] u a = refl
   lookup_behind (e ∷ m) u a = cond-false (same u e.0) _ _ (before_apart' e.0 u a.0) ∙ lookup_behind m u a.1
 
@@ -79,27 +79,27 @@ module _ {V : Type 0} (nothing : V) where
   lookup_rest e m u n = cond-false (same u e.0) _ _ (same_ne u e.0 n)
 
   -- what comes behind a front in which the spelling is not
-  pub lookup_append : (m n : Map V) (u : List ℕ) → All (λ f. before f.0 u ≡ true) m → lookup nothing (m ++ n) u ≡ lookup nothing n u
+  pub lookup_append : (m n : Map V) (u : List ℕ) → AllByRecursion (λ f. before f.0 u ≡ true) m → lookup nothing (m ++ n) u ≡ lookup nothing n u
   lookup_append [] n u a = refl
   lookup_append (e ∷ m) n u a = cond-false (same u e.0) _ _ (before_apart' e.0 u a.0) ∙ lookup_append m n u a.1
 
   -- each entry is found
-  pub looked : (m : Map V) → Ascending m → All (λ e. lookup nothing m e.0 ≡ e.1) m
+  pub looked : (m : Map V) → Ascending m → AllByRecursion (λ e. lookup nothing m e.0 ≡ e.1) m
   looked [] a = tt
   looked (e ∷ m) a = (lookup_first e.0 e.1 m, each m a.0 (looked m a.1))
     where
-      each : (n : Map V) → All (λ f. before e.0 f.0 ≡ true) n → All (λ f. lookup nothing m f.0 ≡ f.1) n → All (λ f. lookup nothing (e ∷ m) f.0 ≡ f.1) n
+      each : (n : Map V) → AllByRecursion (λ f. before e.0 f.0 ≡ true) n → AllByRecursion (λ f. lookup nothing m f.0 ≡ f.1) n → AllByRecursion (λ f. lookup nothing (e ∷ m) f.0 ≡ f.1) n
       each [] b l = tt
       each (f ∷ n) b l = (lookup_rest e m f.0 (λ q. before_ne e.0 f.0 b.0 (sym q)) ∙ l.0, each n b.1 l.1)
 
 -- ---- whether a spelling is held
 
 module _ {V : Type 0} where
-  pub holds_before : (m : Map V) (u : List ℕ) → All (λ f. before u f.0 ≡ true) m → holds m u ≡ false
+  pub holds_before : (m : Map V) (u : List ℕ) → AllByRecursion (λ f. before u f.0 ≡ true) m → holds m u ≡ false
   holds_before [] u a = refl
   holds_before (e ∷ m) u a = ap (λ (b : Bool). b || holds m u) (before_apart u e.0 a.0) ∙ holds_before m u a.1
 
-  pub holds_append : (m n : Map V) (u : List ℕ) → All (λ f. before f.0 u ≡ true) m → holds (m ++ n) u ≡ holds n u
+  pub holds_append : (m n : Map V) (u : List ℕ) → AllByRecursion (λ f. before f.0 u ≡ true) m → holds (m ++ n) u ≡ holds n u
   holds_append [] n u a = refl
   holds_append (e ∷ m) n u a = ap (λ (b : Bool). b || holds (m ++ n) u) (before_apart' e.0 u a.0) ∙ holds_append m n u a.1
 
@@ -108,7 +108,7 @@ module _ {V : Type 0} where
 
 -- ---- a value put in, or joined to the one that is there
 
-pub along : (u v : List ℕ) {V : Type 0} (m : Map V) → before u v ≡ true → All (λ f. before v f.0 ≡ true) m → All (λ f. before u f.0 ≡ true) m
+pub along : (u v : List ℕ) {V : Type 0} (m : Map V) → before u v ≡ true → AllByRecursion (λ f. before v f.0 ≡ true) m → AllByRecursion (λ f. before u f.0 ≡ true) m
 along u v m h a = All-weaker (λ f. before v f.0 ≡ true) (λ f. before u f.0 ≡ true) (λ f l. total_order.along u v f.0 h l) m a
 
 module _ {V : Type 0} (join : V → V → V) where
@@ -126,14 +126,14 @@ module _ {V : Type 0} (join : V → V → V) where
     raised_later o = ap (λ (x : Ordering). by x ((u, v) ∷ e ∷ m) ((u, join e.1 v) ∷ m) (e ∷ raised join u v m)) o
 
   -- what holds of the new entry and of the old ones
-  pub raised_all : (P : List ℕ × V → Type 0) (u : List ℕ) (v : V) → P (u, v) → ((x : V) → P (u, x) → P (u, join x v)) → (m : Map V) → All P m → All P (raised join u v m)
+  pub raised_all : (P : List ℕ × V → Type 0) (u : List ℕ) (v : V) → P (u, v) → ((x : V) → P (u, x) → P (u, join x v)) → (m : Map V) → AllByRecursion P m → AllByRecursion P (raised join u v m)
   unfolding raised
   raised_all P u v p q [] a = (p, tt)
   raised_all P u v p q (e ∷ m) a = go (stand u e.0) (raised_all P u v p q m a.1) where
-    go : Stand u e.0 → All P (raised join u v m) → All P (raised join u v (e ∷ m))
-    go (first l o) r = subst (All P) (sym (raised_first u v e m o)) (p, (a.0, a.1))
-    go (equal l o) r = subst (All P) (sym (raised_equal u v e m o)) (q e.1 (subst (λ (z : List ℕ). P (z, e.1)) (sym l) a.0), a.1)
-    go (later l o) r = subst (All P) (sym (raised_later u v e m o)) (a.0, r)
+    go : Stand u e.0 → AllByRecursion P (raised join u v m) → AllByRecursion P (raised join u v (e ∷ m))
+    go (first l o) r = subst (AllByRecursion P) (sym (raised_first u v e m o)) (p, (a.0, a.1))
+    go (equal l o) r = subst (AllByRecursion P) (sym (raised_equal u v e m o)) (q e.1 (subst (λ (z : List ℕ). P (z, e.1)) (sym l) a.0), a.1)
+    go (later l o) r = subst (AllByRecursion P) (sym (raised_later u v e m o)) (a.0, r)
 
   pub raised_ascends : (u : List ℕ) (v : V) (m : Map V) → Ascending m → Ascending (raised join u v m)
   unfolding raised
@@ -141,7 +141,7 @@ module _ {V : Type 0} (join : V → V → V) where
   raised_ascends u v (e ∷ m) a = go (stand u e.0) (raised_ascends u v m a.1) where
     go : Stand u e.0 → Ascending (raised join u v m) → Ascending (raised join u v (e ∷ m))
     go (first l o) r = subst Ascending (sym (raised_first u v e m o)) ((l, along u e.0 m l a.0), a)
-    go (equal l o) r = subst Ascending (sym (raised_equal u v e m o)) (subst (λ (z : List ℕ). All (λ f. before z f.0 ≡ true) m) (sym l) a.0, a.1)
+    go (equal l o) r = subst Ascending (sym (raised_equal u v e m o)) (subst (λ (z : List ℕ). AllByRecursion (λ f. before z f.0 ≡ true) m) (sym l) a.0, a.1)
     go (later l o) r =
         subst Ascending (sym (raised_later u v e m o))
         (raised_all (λ f. before e.0 f.0 ≡ true) u v l (λ x h. h) m a.0, r)
@@ -168,7 +168,7 @@ module _ {V : Type 0} (join : V → V → V) where
         suc_cond false = refl
 
   -- the spelling comes behind a front
-  pub raised_append : (u : List ℕ) (v : V) (m n : Map V) → All (λ f. before f.0 u ≡ true) m → raised join u v (m ++ n) ≡ m ++ raised join u v n
+  pub raised_append : (u : List ℕ) (v : V) (m n : Map V) → AllByRecursion (λ f. before f.0 u ≡ true) m → raised join u v (m ++ n) ≡ m ++ raised join u v n
   raised_append u v [] n a = refl
   raised_append u v (e ∷ m) n a = go (stand u e.0) (raised_append u v m n a.1) where
     go : Stand u e.0 → raised join u v (m ++ n) ≡ m ++ raised join u v n → raised join u v (e ∷ (m ++ n)) ≡ e ∷ (m ++ raised join u v n)
@@ -218,7 +218,7 @@ module _ {V : Type 0} (join : V → V → V) where
 module _ {V : Type 0} (nothing : V) where
   -- no entry holds nothing
   abbrev pub Some : Map V → Type 0
-  Some m = All (λ e. e.1 ≢ nothing) m
+  Some m = AllByRecursion (λ e. e.1 ≢ nothing) m
 
   pub extensional : (m n : Map V) → Ascending m → Ascending n → Some m → Some n → ((u : List ℕ) → lookup nothing m u ≡ lookup nothing n u) → m ≡ n
   extensional [] [] a b s t l = refl

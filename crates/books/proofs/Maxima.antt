@@ -2,16 +2,16 @@
 use Rattle.std.proofs.Common.{◌≡◌, ℕ, zero, suc, ◌+◌, ◌<◌, ◌≤◌, max, ◌⊎◌, List, [], ◌∷◌, sym, refl, ap, inl, inr, ⊎_elim, arith}
 use Rattle.std.proofs.lemmas.Bool.{cases_eq, cases_lt}
 use Rattle.std.proofs.ByRecursion.{All-weaker, has_append_right}
-use Rattle.std.specs.List.{ContainsAt as Has, AllByRecursion as All}
+use Rattle.std.specs.List.{ContainsAt as Has, AllByRecursion}
 use Rattle.words.specs.Counting.{numbers}
 use Rattle.books.specs.Rule.{greatest}
 
 module _ {A : Type 0} (f : A → ℕ) where
-  pub greatest_le : (v : ℕ) (xs : List A) → All (λ x. f x ≤ v) xs → greatest f xs ≤ v
+  pub greatest_le : (v : ℕ) (xs : List A) → AllByRecursion (λ x. f x ≤ v) xs → greatest f xs ≤ v
   greatest_le v [] a = omega arith
   greatest_le v (x ∷ xs) a = let h = greatest_le v xs a.1 in let d = a.0 in omega arith
 
-  pub greatest_each : (xs : List A) → All (λ x. f x ≤ greatest f xs) xs
+  pub greatest_each : (xs : List A) → AllByRecursion (λ x. f x ≤ greatest f xs) xs
   greatest_each [] = tt
   greatest_each (x ∷ xs) =
       (omega arith, All-weaker (λ y. f y ≤ greatest f xs) (λ y. f y ≤ max (f x) (greatest f xs)) (λ y h. omega arith) xs (greatest_each xs))

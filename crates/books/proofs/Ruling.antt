@@ -3,7 +3,7 @@ use Rattle.std.proofs.Common.{◌≡◌, ℕ, zero, suc, ◌+◌, ◌-◌, ◌<�
 use Rattle.std.proofs.lemmas.List.{length-take-le, length-drop}
 use Rattle.std.proofs.lemmas.Bool.{cases_Bool, and_parts, and_from, leb-true, le-leb, cond-true, cond-false, cond_both, false≢true}
 use Rattle.std.proofs.ByRecursion.{all-has, All-weaker}
-use Rattle.std.specs.List.{ContainsAt as Has, AllByRecursion as All}
+use Rattle.std.specs.List.{ContainsAt as Has, AllByRecursion}
 use Rattle.text.proofs.Padding.{zeros}
 use Rattle.words.specs.Counting.{numbers}
 use Rattle.words.specs.Words.{Headword}
@@ -42,7 +42,7 @@ gives_most p w i x g =
     let l = numbers_at (gives_by p w i) 0 (suc (length p.0)) k (omega arith) (let h = g.inside in omega arith) in
     omega arith
 
-pub numbers_within : (a n : ℕ) → All (λ j. (a ≤ j) × (j < a + n)) (numbers a n)
+pub numbers_within : (a n : ℕ) → AllByRecursion (λ j. (a ≤ j) × (j < a + n)) (numbers a n)
 numbers_within a zero = tt
 numbers_within a (suc n) =
     ((omega arith, omega arith), All-weaker (λ j. (suc a ≤ j) × (j < suc a + n)) (λ j. (a ≤ j) × (j < a + suc n)) (λ j h. let l = h.0 in let u = h.1 in (omega arith, omega arith)) (numbers (suc a) n) (numbers_within (suc a) n))
@@ -177,7 +177,7 @@ module _ (b : Book) (w : Headword) (s n k : ℕ) where
       let u : given_at b w s n k ≤ all = greatest_le (λ p. cond (leb (length p.0) n && matches p.0 w s) (get_or p.1 k 0) 0) all b (both b (looked no_values b h.ascends) h.patterns) in
       omega arith
     where
-      both : (c : Book) → All (λ p. row_in b p.0 ≡ p.1) c → All Valid c → All (λ p. cond (leb (length p.0) n && matches p.0 w s) (get_or p.1 k 0) 0 ≤ all) c
+      both : (c : Book) → AllByRecursion (λ p. row_in b p.0 ≡ p.1) c → AllByRecursion Valid c → AllByRecursion (λ p. cond (leb (length p.0) n && matches p.0 w s) (get_or p.1 k 0) 0 ≤ all) c
       both [] x y = tt
       both (p ∷ c) x y = (entry_below p x.0 y.0, both c x.1 y.1)
 

@@ -1,6 +1,6 @@
 -- What a book means: the patterns that it holds.
 use Rattle.std.specs.Prelude.{ℕ, List}
-use Rattle.std.specs.List.{AllByRecursion as All}
+use Rattle.std.specs.List.{AllByRecursion}
 use Rattle.patterns.specs.Spellings.{Spelled, Valid, no_values, greater}
 use Rattle.books.specs.Maps.{Map, Ascending, lookup, Joined}
 
@@ -11,7 +11,7 @@ Book = Map (List ℕ)
 -- its entries ascend, and each is a pattern, so that each row has some value above 0
 pub record Sound (b : Book) : Type 0 where
   pub ascends : Ascending b
-  pub patterns : All Valid b
+  pub patterns : AllByRecursion Valid b
 
 -- the row of a spelling: that of its pattern, or all 0
 abbrev pub row_in : Book → List ℕ → List ℕ

@@ -3,7 +3,7 @@ use Rattle.std.specs.Prelude.{◌≡◌, ℕ, Bool, true, false, cond, ◌||◌,
 use Rattle.std.specs.declared.cmp.Ordering.TheVariants.{Less, Equal, Greater}
 use Rattle.std.specs.declared.cmp.Ordering.{Ordering}
 use Rattle.std.specs.Ordering.{is_eq}
-use Rattle.std.specs.List.{AllByRecursion as All}
+use Rattle.std.specs.List.{AllByRecursion}
 use Rattle.patterns.specs.Order.{ordering, before}
 
 -- A map is the list of its entries, a spelling with its value each, in the order of the spellings. So equal maps are equal
@@ -14,7 +14,7 @@ Map V = List (List ℕ × V)
 -- each spelling comes before all that follow it; so none comes twice
 abbrev pub Ascending : {V : Type 0} → Map V → Type 0
 Ascending [] = Unit {0}
-Ascending (e ∷ m) = All (λ f. before e.0 f.0 ≡ true) m × Ascending m
+Ascending (e ∷ m) = AllByRecursion (λ f. before e.0 f.0 ≡ true) m × Ascending m
 
 abbrev pub same : List ℕ → List ℕ → Bool
 same u v = is_eq (ordering u v)

@@ -3,7 +3,7 @@ use Rattle.std.proofs.Common.{◌≡◌, ℕ, suc, ◌+◌, ◌-◌, ◌<◌, �
 use Rattle.std.proofs.lemmas.List.{get_or_past}
 use Rattle.std.proofs.lemmas.Bool.{cases_lt, and_parts, and_from, leb-true, le-leb, lt-leb, lt-ltb, le-ltb, cond-true, cond-false, cond_both}
 use Rattle.std.proofs.ByRecursion.{all-has, all_has_itself}
-use Rattle.std.specs.List.{ContainsAt as Has, AllByRecursion as All}
+use Rattle.std.specs.List.{ContainsAt as Has, AllByRecursion}
 use Rattle.words.specs.Counting.{numbers}
 use Rattle.words.specs.Words.{Headword}
 use Rattle.patterns.specs.Spellings.{Spelled, Valid, longest}
@@ -52,11 +52,11 @@ module _ (b : Book) (w : Headword) (i : ℕ) where
   all = greatest (start_gives b w (i + 1)) (numbers 0 (length w.0 + 2))
 
   -- no pattern that matches at a start gives more than the value
-  given_below : All Valid b → (s : ℕ) → s ≤ i + 1 → given_at b w s longest (i + 1 - s) ≤ value b w i
+  given_below : AllByRecursion Valid b → (s : ℕ) → s ≤ i + 1 → given_at b w s longest (i + 1 - s) ≤ value b w i
   unfolding given_at value
   given_below v s l = greatest_le (λ p. cond (leb (length p.0) longest && matches p.0 w s) (get_or p.1 (i + 1 - s) 0) 0) (value b w i) b (each b v (greatest_each (λ p. gives p w i) b))
     where
-      each : (c : Book) → All Valid c → All (λ p. gives p w i ≤ value b w i) c → All (λ p. cond (leb (length p.0) longest && matches p.0 w s) (get_or p.1 (i + 1 - s) 0) 0 ≤ value b w i) c
+      each : (c : Book) → AllByRecursion Valid c → AllByRecursion (λ p. gives p w i ≤ value b w i) c → AllByRecursion (λ p. cond (leb (length p.0) longest && matches p.0 w s) (get_or p.1 (i + 1 - s) 0) 0 ≤ value b w i) c
       each [] x y = tt
       each (p ∷ c) x y = (let h = start_below p w i s x.0 l in let k = y.0 in omega arith, each c x.1 y.1)
 
@@ -93,7 +93,7 @@ module _ (b : Book) (w : Headword) (i : ℕ) where
       let u : value b w i ≤ all = greatest_le (λ p. gives p w i) all b (each b (all_has_itself b) h.patterns) in
       omega arith
     where
-      each : (c : Book) → All (Has b) c → All Valid c → All (λ p. gives p w i ≤ all) c
+      each : (c : Book) → AllByRecursion (Has b) c → AllByRecursion Valid c → AllByRecursion (λ p. gives p w i ≤ all) c
       each [] x y = tt
       each (p ∷ c) x y = (pattern_below p x.0 y.0, each c x.1 y.1)
 

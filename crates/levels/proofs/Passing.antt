@@ -1,6 +1,6 @@
 -- The passes of a level, by their index, and the order of them in other words.
 use Rattle.std.proofs.Common.{◌≡◌, ℕ, zero, suc, ◌+◌, ◌-◌, ◌*◌, ◌<◌, ◌≤◌, Bool, cond, ◌&&◌, eqb, leb, List, [], ◌∷◌, ◌++◌, map, length, get_or, Some, None, refl, ap, ◌∙◌, ⊎_elim, arith}
-use Rattle.std.specs.List.{flat_map, AllByRecursion as All, slice_get}
+use Rattle.std.specs.List.{flat_map, AllByRecursion, slice_get}
 use Rattle.std.proofs.lemmas.List.{length-append, length-map, get_or_append_left, get_or-append_right, get_or-map}
 use Rattle.std.proofs.ByRecursion.{All-get_or, All-append, All-weaker}
 use Rattle.std.proofs.lemmas.Option.{slice_get-get_or}
@@ -73,11 +73,11 @@ once lo hi m k l = let i = count_from m k lo (suc hi - lo) l in grind (arith, na
 
 -- ---- lengths rise
 
-of_length : (m : ℕ) (ks : List ℕ) → All (λ (p : Pass). p.0 ≡ m) (map (λ k. (m, k)) ks)
+of_length : (m : ℕ) (ks : List ℕ) → AllByRecursion (λ (p : Pass). p.0 ≡ m) (map (λ k. (m, k)) ks)
 of_length m [] = tt
 of_length m (k ∷ ks) = (refl, of_length m ks)
 
-from_length : (a n : ℕ) → All (λ (p : Pass). a ≤ p.0) (flat_map passes_of (numbers a n))
+from_length : (a n : ℕ) → AllByRecursion (λ (p : Pass). a ≤ p.0) (flat_map passes_of (numbers a n))
 from_length a zero = tt
 from_length a (suc n) =
     All-append (λ (p : Pass). a ≤ p.0) (passes_of a) (flat_map passes_of (numbers (suc a) n))
@@ -87,7 +87,7 @@ from_length a (suc n) =
 abbrev Rising : List Pass → Type 0
 Rising ps = (i j : ℕ) → i ≤ j → j < length ps → (get_or ps i (0, 0)).0 ≤ (get_or ps j (0, 0)).0
 
-rising_append : (a : ℕ) (xs ys : List Pass) → All (λ (p : Pass). p.0 ≡ a) xs → All (λ (p : Pass). a ≤ p.0) (xs ++ ys) → Rising ys → Rising (xs ++ ys)
+rising_append : (a : ℕ) (xs ys : List Pass) → AllByRecursion (λ (p : Pass). p.0 ≡ a) xs → AllByRecursion (λ (p : Pass). a ≤ p.0) (xs ++ ys) → Rising ys → Rising (xs ++ ys)
 rising_append a xs ys here all rise i j h u =
     ⊎_elim
     (λ (l : i < length xs).

@@ -1,7 +1,7 @@
 -- What a make holds keeps its rules: a tree book holds a book, and no entry of a tally holds counts of 0.
 use Rattle.std.specs.Prelude.{◌≡◌, ℕ, ◌<◌, true, ◌≢◌, List, [], ◌∷◌, length, slice_index}
 use Rattle.std.proofs.Common.{sym, ap, ◌∙◌}
-use Rattle.std.specs.List.{AllByRecursion as All}
+use Rattle.std.specs.List.{AllByRecursion}
 use Rattle.std.proofs.ByRecursion.{All-map, All-weaker}
 use Rattle.std.proofs.lemmas.Bool.{not-false}
 use Rattle.patterns.specs.declared.pattern.Row.{Row}
@@ -39,11 +39,11 @@ valid u r l n b = record {
   valued = not-false (any_above_zero r.values) (bare_not row_kind r n);
 }
 
-both : {X : Type 0} (P Q : X → Type 0) (xs : List X) → All P xs → All Q xs → All (λ x. P x × Q x) xs
+both : {X : Type 0} (P Q : X → Type 0) (xs : List X) → AllByRecursion P xs → AllByRecursion Q xs → AllByRecursion (λ x. P x × Q x) xs
 both P Q [] a b = tt
 both P Q (x ∷ xs) a b = ((a.0, b.0), both P Q xs a.1 b.1)
 
-book_sound : (m : Map Row) → tree.Sound row_kind m → All (λ e. Ruled e.0) m → Bounded m → Sound (book_of m)
+book_sound : (m : Map Row) → tree.Sound row_kind m → AllByRecursion (λ e. Ruled e.0) m → Bounded m → Sound (book_of m)
 book_sound m s r b = record {
   ascends = ascends m s.ascends;
   patterns = All-map Valid (λ f. (f.0, f.1.values)) m

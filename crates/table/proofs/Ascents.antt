@@ -1,6 +1,6 @@
 -- Rows in order, by neighbours, by pairs and as a map that ascends.
 use Rattle.std.proofs.Common.{◌≡◌, ℕ, zero, suc, ◌+◌, ◌-◌, ◌<◌, ◌≤◌, true, List, [], ◌∷◌, length, get_or, sym, subst, arith}
-use Rattle.std.specs.List.{AllByRecursion as All}
+use Rattle.std.specs.List.{AllByRecursion}
 use Rattle.std.proofs.lemmas.List.{get_or-map}
 use Rattle.patterns.specs.declared.pattern.Pattern.{Pattern}
 use Rattle.patterns.specs.Order.{before}
@@ -27,7 +27,7 @@ pair rows n o j k h l =
 
 -- ---- rows that hold a book that ascends are in order
 
-leads : (u : List ℕ) (rows : List Pattern) (n : ℕ) → 0 < n → n ≤ length rows → All (λ e. before u e.0 ≡ true) (in_use rows n) → before u (key_at rows 0) ≡ true
+leads : (u : List ℕ) (rows : List Pattern) (n : ℕ) → 0 < n → n ≤ length rows → AllByRecursion (λ e. before u e.0 ≡ true) (in_use rows n) → before u (key_at rows 0) ≡ true
 leads u rows zero h l a = absurd (omega arith)
 leads u [] (suc n) h l a = absurd (omega arith)
 leads u (q ∷ rows) (suc n) h l a = a.0

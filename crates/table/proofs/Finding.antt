@@ -1,6 +1,6 @@
 -- Where a spelling stands among the rows in use, and what its place tells of the book that they hold.
 use Rattle.std.proofs.Common.{◌≡◌, ℕ, zero, suc, ◌+◌, ◌-◌, ◌<◌, ◌≤◌, true, false, List, [], ◌∷◌, map, length, get_or, take, drop, Ok, Err, sym, ap, ◌∙◌, subst, ap₂, ⊎_elim, arith}
-use Rattle.std.specs.List.{AllByRecursion as All}
+use Rattle.std.specs.List.{AllByRecursion}
 use Rattle.std.proofs.lemmas.List.{drop_more, drop_all, drop-take, drop-map, get_or-take, get_or-map, take-map, length-map, length-take-le}
 use Rattle.std.proofs.lemmas.Bool.{cases_lt, true≢false, false≢true}
 use Rattle.patterns.specs.declared.pattern.Pattern.{Pattern}
@@ -29,18 +29,18 @@ key_in b i = (get_or b i ([], [])).0
 
 module _ (b : Book) (u : List ℕ) (i : ℕ) (a : Ascending b) where
   -- the entries behind entry i come after it
-  behind : i < length b → All (λ e. before (key_in b i) e.0 ≡ true) (drop (i + 1) b)
+  behind : i < length b → AllByRecursion (λ e. before (key_in b i) e.0 ≡ true) (drop (i + 1) b)
   behind l = (subst Ascending (drop_more b i ([], []) l) (drop_ascends i b a)).0
 
-  pub around_held : i < length b → All (λ e. before e.0 u ≡ true) (take i b) → key_in b i ≡ u → Around b u i (i + 1)
-  around_held l f k = record { front = f; back = subst (λ (v : List ℕ). All (λ e. before v e.0 ≡ true) (drop (i + 1) b)) k (behind l) }
+  pub around_held : i < length b → AllByRecursion (λ e. before e.0 u ≡ true) (take i b) → key_in b i ≡ u → Around b u i (i + 1)
+  around_held l f k = record { front = f; back = subst (λ (v : List ℕ). AllByRecursion (λ e. before v e.0 ≡ true) (drop (i + 1) b)) k (behind l) }
 
-  pub around_other : All (λ e. before e.0 u ≡ true) (take i b) → (i < length b → before u (key_in b i) ≡ true) → Around b u i i
+  pub around_other : AllByRecursion (λ e. before e.0 u ≡ true) (take i b) → (i < length b → before u (key_in b i) ≡ true) → Around b u i i
   around_other f h = record {
     front = f;
     back = ⊎_elim
-        (λ (l : i < length b). subst (All (λ e. before u e.0 ≡ true)) (sym (drop_more b i ([], []) l)) (h l, along u (key_in b i) (drop (i + 1) b) (h l) (behind l)))
-        (λ (l : length b ≤ i). subst (All (λ e. before u e.0 ≡ true)) (sym (drop_all i b l)) tt)
+        (λ (l : i < length b). subst (AllByRecursion (λ e. before u e.0 ≡ true)) (sym (drop_more b i ([], []) l)) (h l, along u (key_in b i) (drop (i + 1) b) (h l) (behind l)))
+        (λ (l : length b ≤ i). subst (AllByRecursion (λ e. before u e.0 ≡ true)) (sym (drop_all i b l)) tt)
         (cases_lt i (length b));
   }
 
@@ -72,7 +72,7 @@ taken_order t k h =
     let g : suc k < t.used = omega arith in
     ap₂ before (key_take t k (omega arith)) (key_take t (suc k) g) ∙ t.ordered k g
 
-front_all : (rows : List Pattern) (u : List ℕ) (i : ℕ) → ((k : ℕ) → k < i → before (key_at rows k) u ≡ true) → All (λ e. before e.0 u ≡ true) (take i (map spelled rows))
+front_all : (rows : List Pattern) (u : List ℕ) (i : ℕ) → ((k : ℕ) → k < i → before (key_at rows k) u ≡ true) → AllByRecursion (λ e. before e.0 u ≡ true) (take i (map spelled rows))
 front_all rows u zero f = tt
 front_all [] u (suc i) f = tt
 front_all (p ∷ rows) u (suc i) f = (f 0 (omega arith), front_all rows u i (λ k h. f (suc k) (omega arith)))
@@ -86,7 +86,7 @@ after_of v u b s = go (stand v u) where
   go (later l o) = l
 
 module _ (t : Table) (u : List ℕ) (i : ℕ) (p : PlaceOf (take t.used (rows_of t)) u i) where
-  front : All (λ e. before e.0 u ≡ true) (take i (held_by t))
+  front : AllByRecursion (λ e. before e.0 u ≡ true) (take i (held_by t))
   front = front_all (take t.used (rows_of t)) u i p.front
 
   module _ (d : Pattern) (h : i < t.used) where

@@ -1,7 +1,7 @@
 -- What a book answers, by the place of a spelling in it.
 use Rattle.std.proofs.Common.{◌≡◌, ℕ, ◌+◌, Bool, true, false, ◌||◌, List, [], ◌∷◌, ◌++◌, get_or, take, drop, set, Ok, Err, sym, refl, ap, ◌∙◌, ap₂, add-one}
 use Rattle.std.specs.Ordering.{is_lt}
-use Rattle.std.specs.List.{insert, AllByRecursion as All}
+use Rattle.std.specs.List.{insert, AllByRecursion}
 use Rattle.std.proofs.lemmas.List.Elements.{filter-append}
 use Rattle.std.proofs.lemmas.List.{take-append-drop, drop_more, set_split}
 use Rattle.std.proofs.lemmas.Bool.{cond-true, cond-false, true≢false}
@@ -18,11 +18,11 @@ use Rattle.table.specs.Places.{Found}
 before_self : (u : List ℕ) → before u u ≡ false
 before_self u = ap is_lt (total_order.same u)
 
-none_after : (u : List ℕ) (b : Book) → All (λ e. before e.0 u ≡ true) b → after u b ≡ []
+none_after : (u : List ℕ) (b : Book) → AllByRecursion (λ e. before e.0 u ≡ true) b → after u b ≡ []
 none_after u [] a = refl
 none_after u (e ∷ b) a = cond-false (before u e.0) (e ∷ after u b) (after u b) (before_turned e.0 u a.0) ∙ none_after u b a.1
 
-all_after : (u : List ℕ) (b : Book) → All (λ e. before u e.0 ≡ true) b → after u b ≡ b
+all_after : (u : List ℕ) (b : Book) → AllByRecursion (λ e. before u e.0 ≡ true) b → after u b ≡ b
 all_after u [] a = refl
 all_after u (e ∷ b) a = cond-true (before u e.0) (e ∷ after u b) (after u b) a.0 ∙ ap (λ (x : Book). e ∷ x) (all_after u b a.1)
 
@@ -68,7 +68,7 @@ module _ (b : Book) (u : List ℕ) (i : ℕ) (f : Found b u (Ok i)) where
 
 -- ---- the spelling is not held
 
-raised_before : (u : List ℕ) (v : List ℕ) (b : Book) → All (λ e. before u e.0 ≡ true) b → raised greater u v b ≡ (u, v) ∷ b
+raised_before : (u : List ℕ) (v : List ℕ) (b : Book) → AllByRecursion (λ e. before u e.0 ≡ true) b → raised greater u v b ≡ (u, v) ∷ b
 unfolding raised
 raised_before u v [] a = refl
 raised_before u v (e ∷ b) a = go (stand u e.0) where

@@ -1,6 +1,6 @@
 -- Where a spelling stands among rows.
 use Rattle.std.specs.Prelude.{◌≡◌, ℕ, ◌+◌, ◌<◌, ◌≤◌, true, false, List, [], length, take, drop, Ok, Err, Result, slice_index_or}
-use Rattle.std.specs.List.{AllByRecursion as All}
+use Rattle.std.specs.List.{AllByRecursion}
 use Rattle.patterns.specs.declared.pattern.Pattern.{Pattern}
 use Rattle.patterns.specs.Order.{before}
 use Rattle.books.specs.Books.{Book}
@@ -14,8 +14,8 @@ pub record PlaceOf (rows : List Pattern) (u : List ℕ) (place : ℕ) : Type 0 w
 
 -- the first i entries of a book come before the spelling, and those behind the first j come after it
 pub record Around (b : Book) (u : List ℕ) (i j : ℕ) : Type 0 where
-  pub front : All (λ e. before e.0 u ≡ true) (take i b)
-  pub back : All (λ e. before u e.0 ≡ true) (drop j b)
+  pub front : AllByRecursion (λ e. before e.0 u ≡ true) (take i b)
+  pub back : AllByRecursion (λ e. before u e.0 ≡ true) (drop j b)
 
 -- the place of the entry that has the spelling, or where one with it would stand
 abbrev pub Found : Book → List ℕ → Result ℕ ℕ → Type 0

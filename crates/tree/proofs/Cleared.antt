@@ -1,6 +1,6 @@
 -- A tree that holds nothing.
 use Rattle.std.proofs.Common.{◌≡◌, ℕ, ◌<◌, ◌≤◌, List, [], ◌∷◌, length, set, sym, refl, ap, ◌∙◌, subst, arith}
-use Rattle.std.specs.List.{AllByRecursion as All}
+use Rattle.std.specs.List.{AllByRecursion}
 use Rattle.tree.specs.declared.cell.Link.{Link}
 use Rattle.tree.specs.declared.cell.Cell.{Cell}
 use Rattle.tree.specs.Cells.{links, values, ups, at, no_link, Shape}
@@ -38,7 +38,7 @@ module _ {V : Type 0} (K : Kind V) where
         counted = ap length m;
         few = omega arith;
         full = omega arith;
-        ruled = subst (All (λ e. Ruled e.0)) (sym m) tt;
+        ruled = subst (AllByRecursion (λ e. Ruled e.0)) (sym m) tt;
       }
   cleared_none (c ∷ cs) e = absurd (omega arith)
 
@@ -65,7 +65,7 @@ module _ {V : Type 0} (K : Kind V) where
           counted = ap length rooted_means;
           few = omega arith;
           full = omega arith;
-          ruled = subst (All (λ e. Ruled e.0)) (sym rooted_means) tt;
+          ruled = subst (AllByRecursion (λ e. Ruled e.0)) (sym rooted_means) tt;
         }
 
   -- a root alone

@@ -1,6 +1,6 @@
 -- What a map holds, and the least of it.
 use Rattle.std.proofs.Common.{◌≡◌, ℕ, Bool, true, false, List, [], ◌∷◌, Some, None, filter, sym, refl, ap, ◌∙◌, subst, ⊎_elim}
-use Rattle.std.specs.List.{AllByRecursion as All}
+use Rattle.std.specs.List.{AllByRecursion}
 use Rattle.std.proofs.lemmas.Bool.{cases_Bool, both_ways, false≢true, or_left, or_right, or_cases, cond-true, cond-false}
 use Rattle.patterns.specs.Order.{before}
 use Rattle.books.specs.Maps.{Map, Ascending, same, holds, least_of}
@@ -8,7 +8,7 @@ use Rattle.books.proofs.Mapping.{same_refl, same_eq, Stand, first, equal, later,
 
 module _ {V : Type 0} where
   -- what holds of all spellings holds of one that is held
-  pub all_held : (P : List ℕ → Type 0) (m : Map V) (u : List ℕ) → All (λ e. P e.0) m → holds m u ≡ true → P u
+  pub all_held : (P : List ℕ → Type 0) (m : Map V) (u : List ℕ) → AllByRecursion (λ e. P e.0) m → holds m u ≡ true → P u
   all_held P [] u a h = absurd (false≢true h)
   all_held P (e ∷ m) u a h = ⊎_elim
       (λ (t : same u e.0 ≡ true). subst P (sym (same_eq u e.0 t)) a.0)
@@ -51,6 +51,6 @@ module _ {V : Type 0} where
         (λ (q : f e.0 ≡ false). ap least_of (cond-false (f e.0) (e ∷ passing m) (passing m) q) ∙ least_none m (λ x hx. n x (or_right (same x e.0) (holds m x) hx)))
         (cases_Bool (f e.0))
 
-    pub all_passing : (m : Map V) → All (λ e. f e.0 ≡ true) m → passing m ≡ m
+    pub all_passing : (m : Map V) → AllByRecursion (λ e. f e.0 ≡ true) m → passing m ≡ m
     all_passing [] a = refl
     all_passing (e ∷ m) a = cond-true (f e.0) (e ∷ passing m) (passing m) a.0 ∙ ap (λ (x : Map V). e ∷ x) (all_passing m a.1)

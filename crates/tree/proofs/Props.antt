@@ -5,7 +5,7 @@ use mathlib.Core.Bool.{Bool-set}
 use mathlib.Core.HLevel.{⊥_prop, ×_prop, ×₃_prop, Π_prop}
 use native.Mathlib.Bridge.{le_prop}
 use native.Mathlib.Nat.{ℕ_set}
-use Rattle.std.specs.List.{AllByRecursion as All}
+use Rattle.std.specs.List.{AllByRecursion}
 use Rattle.tree.specs.declared.cell.Link.{Link}
 use Rattle.tree.specs.declared.cell.Cell.{Cell}
 use Rattle.tree.specs.Cells.{links, ups, Shape}
@@ -16,7 +16,7 @@ use Rattle.tree.specs.Stands.{Stands}
 ne_prop : {a b : ℕ} → IsProp (a ≢ b)
 ne_prop = Π_prop (λ _. ⊥_prop)
 
-all_prop : {X : Type 0} (P : X → Type 0) → ((x : X) → IsProp (P x)) → (xs : List X) → IsProp (All P xs)
+all_prop : {X : Type 0} (P : X → Type 0) → ((x : X) → IsProp (P x)) → (xs : List X) → IsProp (AllByRecursion P xs)
 all_prop P h [] = λ a b i. tt
 all_prop P h (x ∷ xs) = ×_prop (h x) (all_prop P h xs)
 

@@ -1,6 +1,6 @@
 -- Values put into maps: what is then looked up, and that the order of it does not matter.
 use Rattle.std.proofs.Common.{◌≡◌, ℕ, suc, Bool, true, false, cond, not, ◌||◌, ◌≢◌, List, [], ◌∷◌, length, sym, refl, ap, ◌∙◌, subst, ⊎_elim}
-use Rattle.std.specs.List.{AllByRecursion as All}
+use Rattle.std.specs.List.{AllByRecursion}
 use Rattle.std.proofs.lemmas.Bool.{cases_Bool, both_ways, cond-true, cond-false}
 use Rattle.books.specs.Maps.{Map, Ascending, same, holds, lookup, Joined, raised}
 use Rattle.books.proofs.Mapping.{same_refl, same_eq, raised_joined, raised_ascends, raised_all, raised_length, extensional}
@@ -41,10 +41,10 @@ module _ {V : Type 0} (K : Kind V) where
         (cases_Bool (K.bare v))
 
     -- what holds of each old entry, and of each value of the new spelling that is not nothing
-    pub put_all : (P : List ℕ × V → Type 0) → (K.bare v ≡ false → P (u, v)) → ((x : V) → P (u, x) → P (u, K.join x v)) → All P m → All P (put K u v m)
+    pub put_all : (P : List ℕ × V → Type 0) → (K.bare v ≡ false → P (u, v)) → ((x : V) → P (u, x) → P (u, K.join x v)) → AllByRecursion P m → AllByRecursion P (put K u v m)
     put_all P p q a = ⊎_elim
-        (λ (t : K.bare v ≡ true). subst (All P) (sym (put_bare t)) a)
-        (λ (f : K.bare v ≡ false). subst (All P) (sym (put_solid f)) (raised_all K.join P u v (p f) q m a))
+        (λ (t : K.bare v ≡ true). subst (AllByRecursion P) (sym (put_bare t)) a)
+        (λ (f : K.bare v ≡ false). subst (AllByRecursion P) (sym (put_solid f)) (raised_all K.join P u v (p f) q m a))
         (cases_Bool (K.bare v))
 
     pub put_sound : Sound K m → Sound K (put K u v m)

@@ -1,7 +1,7 @@
 -- What is looked up in a tree, and a value joined in it.
 use Rattle.std.proofs.Common.{◌≡◌, ℕ, suc, ◌+◌, ◌-◌, ◌*◌, ◌/◌, ◌<◌, ◌≤◌, Bool, true, false, not, ◌||◌, ltb, ◌≢◌, List, length, get_or, set, sym, refl, ap, ◌∙◌, subst, ⊎_elim, add-one, arith}
 use lib.Seq.{map-set_same}
-use Rattle.std.specs.List.{AllByRecursion as All}
+use Rattle.std.specs.List.{AllByRecursion}
 use Rattle.std.proofs.lemmas.Bool.{cases_eq, cases_lt, cases_Bool, lt-ltb, le-ltb, or_left, cond-true, cond-false}
 use Rattle.std.proofs.lemmas.List.{get_or-map, map-set, length-set, get_or-set_same, get_or-set_other}
 use Rattle.patterns.specs.Spellings.{longest}
@@ -113,7 +113,7 @@ module _ {V : Type 0} (K : Kind V) (cs cs₁ cs₂ : List (Cell V)) (used u₁ c
     counted = ap length joined_means ∙ ln;
     few = few;
     full = subst (λ (n : ℕ). count' ≤ limit_of n) (sym (len ∙ d.size)) full';
-    ruled = subst (All (λ e. Ruled e.0)) (sym joined_means) (put_all K w v (meaning K cs used) (λ e. Ruled e.0) (λ _. ruled) (λ _ r. r) st.ruled);
+    ruled = subst (AllByRecursion (λ e. Ruled e.0)) (sym joined_means) (put_all K w v (meaning K cs used) (λ e. Ruled e.0) (λ _. ruled) (λ _ r. r) st.ruled);
   }
 
   m_sound : Sound K m

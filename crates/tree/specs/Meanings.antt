@@ -1,6 +1,6 @@
 -- What cells mean: a map from spellings to values.
 use Rattle.std.specs.Prelude.{ℕ, zero, suc, cond, ◌≢◌, List, [], slice_index_or}
-use Rattle.std.specs.List.{AllByRecursion as All}
+use Rattle.std.specs.List.{AllByRecursion}
 use Rattle.books.specs.Maps.{Map, Ascending, raised}
 use Rattle.tree.specs.declared.cell.Link.{Link}
 use Rattle.tree.specs.declared.cell.Cell.{Cell}
@@ -12,7 +12,7 @@ module _ {V : Type 0} (K : Kind V) where
   -- the entries ascend, and none holds nothing
   pub record Sound (m : Map V) : Type 0 where
     pub ascends : Ascending m
-    pub some : All (λ e. e.1 ≢ K.nothing) m
+    pub some : AllByRecursion (λ e. e.1 ≢ K.nothing) m
 
   -- v joined at the spelling u; a nothing leaves all as it was
   unfoldable pub put : List ℕ → V → Map V → Map V

@@ -1,6 +1,6 @@
 -- What a tree keeps, and what its calls do.
 use Rattle.std.specs.Prelude.{◌≡◌, ℕ, ◌+◌, ◌-◌, ◌*◌, ◌/◌, ◌<◌, ◌≤◌, Bool, true, false, cond, ◌||◌, ◌≢◌, List, length, Ok, Err, Result, nat_lt, slice_index_or}
-use Rattle.std.specs.List.{AllByRecursion as All}
+use Rattle.std.specs.List.{AllByRecursion}
 use Rattle.patterns.specs.Spellings.{longest}
 use Rattle.books.specs.Maps.{Map, holds}
 use Rattle.books.specs.declared.book.Full.{Full}
@@ -27,7 +27,7 @@ pub record Stands {V : Type 0} (K : Kind V) (cs : List (Cell V)) (used count : �
   pub counted : length (meaning K cs used) ≡ count
   pub few : used ≤ 1 + longest * count
   pub full : count ≤ limit_of (length cs)
-  pub ruled : All (λ e. Ruled e.0) (meaning K cs used)
+  pub ruled : AllByRecursion (λ e. Ruled e.0) (meaning K cs used)
 
 -- the first `used` cells are a tree, however many spellings it holds
 abbrev pub Holding : {V : Type 0} → Kind V → List (Cell V) → ℕ → Type 0
