@@ -10,6 +10,13 @@ use crate::pattern::Spelling;
 use std::cmp::Ordering;
 
 impl Spelling {
+    /// The symbols of the spelling, and nothing behind them.
+    pub fn symbols(&self) -> &[u8]
+        ensures { result.now ≡ symbols_of self.now }
+    {
+        &self.symbols[..self.len]
+    }
+
     /// How this spelling stands to another in the order.
     pub fn compare(&self, other: &Spelling) -> Ordering
         ensures value { result ≡ ordering (symbols_of self.now) (symbols_of other.now) }
