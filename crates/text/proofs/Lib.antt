@@ -1,6 +1,6 @@
 pub mod Splitting
 pub mod Padding
 mod Commas
-mod Cuts
+mod Pieces
 mod Overlays
 mod Values

@@ -1,20 +1,14 @@
 -- Text that is written over memory: one text after another is the two in one.
-use Rattle.std.proofs.Common.{◌≡◌, ℕ, ◌+◌, ◌<◌, ◌≤◌, List, [], ◌∷◌, ◌++◌, length, take, drop, set, sym, ap, ◌∙◌, ap₂, append_assoc, add-zero, add-one, arith}
-use Rattle.std.proofs.lemmas.List.{set_split, length-append, length-drop, length-take-le, take-append-drop, take_at, drop_at, drop-drop}
+use Rattle.std.proofs.Common.{◌≡◌, ℕ, ◌+◌, ◌≤◌, List, [], ◌++◌, length, take, drop, sym, ap, ◌∙◌, ap₂, append_assoc, add-zero, arith}
+use Rattle.std.proofs.lemmas.List.{length-append, length-take-le, take-append-drop, take_at, drop_at, drop-drop}
 use Rattle.text.specs.Written.{overlaid}
 
 pub overlaid_none : (m : List ℕ) (at : ℕ) → overlaid m at [] ≡ m
 overlaid_none m at = rw add-zero (take-append-drop at m)
 
-pub overlaid_byte : (m : List ℕ) (at b : ℕ) → at < length m → set m at b ≡ overlaid m at (b ∷ [])
-overlaid_byte m at b h = set_split m at b h ∙ ap (λ (k : ℕ). take at m ++ b ∷ drop k m) (sym (add-one at))
-
 -- where the text ends
 front_length : (m : List ℕ) (at : ℕ) (s : List ℕ) → at + length s ≤ length m → length (take at m ++ s) ≡ at + length s
 front_length m at s h = length-append (take at m) s ∙ omega (arith, length-take-le at m (omega arith))
-
-pub length_overlaid : (m : List ℕ) (at : ℕ) (s : List ℕ) → at + length s ≤ length m → length (overlaid m at s) ≡ length m
-length_overlaid m at s h = simp (length-append, length-drop) (omega (arith, length-take-le at m (omega arith)))
 
 -- the memory up to the end of the text, and what lies beyond
 overlaid_parts : (m : List ℕ) (at : ℕ) (s : List ℕ) → overlaid m at s ≡ (take at m ++ s) ++ drop (at + length s) m

@@ -1,7 +1,8 @@
 -- The first line of a text, and what follows it.
-use Rattle.std.proofs.Common.{◌≡◌, ℕ, suc, ◌+◌, ◌-◌, ◌<◌, ◌≤◌, eqb, List, [], ◌∷◌, ◌++◌, length, get_or, take, drop, sym, refl, ap, ◌∙◌, inl, inr, ⊎_elim, append-nil, arith}
-use Rattle.std.proofs.lemmas.List.{drop_more, drop_all, take-append-drop, drop-drop, length-drop, get_or-take, get_or-drop, length-take-le}
+use Rattle.std.proofs.Common.{◌≡◌, ℕ, suc, ◌<◌, eqb, List, [], ◌∷◌, ◌++◌, length, Some, None, Option, sym, refl, ap, ◌∙◌, inl, inr, ⊎_elim, arith, Bor}
+use Rattle.std.specs.Option.{unwrap_or}
 use Rattle.std.proofs.lemmas.Bool.{cond-false, ne_eqb}
+use Rattle.text.specs.Cuts.{CutAt}
 use Rattle.text.specs.Lines.{lines_of, grow, behind_line, NoFeed, Begins}
 
 lines_feed : (xs t : List ℕ) → NoFeed xs → lines_of (xs ++ 10 ∷ t) ≡ xs ∷ lines_of t
@@ -47,26 +48,7 @@ begins_behind text line rest b =
     (λ p. ap behind_line p.0 ∙ behind_last line b.clear ∙ sym p.1)
     b.parts
 
--- the part of a text from a up to its next line feed at b, or up to its end
-module _ (t : List ℕ) (a b : ℕ) (ab : a ≤ b) (bt : b ≤ length t) (clear : (k : ℕ) → a ≤ k → k < b → get_or t k 0 ≡ 10 → ⊥) where
-  split : drop a t ≡ take (b - a) (drop a t) ++ drop b t
-  split =
-      let q : a + (b - a) ≡ b = omega arith in
-      sym (take-append-drop (b - a) (drop a t)) ∙ ap (λ (x : List ℕ). take (b - a) (drop a t) ++ x) (drop-drop (b - a) a t ∙ ap (λ (n : ℕ). drop n t) q)
-
-  part_length : length (take (b - a) (drop a t)) ≡ b - a
-  part_length = length-take-le (b - a) (drop a t) (omega (arith, length-drop a t))
-
-  part_clear : NoFeed (take (b - a) (drop a t))
-  part_clear k h e =
-      let l : k < b - a = omega (arith, part_length) in
-      clear (a + k) (omega arith) (omega arith) (sym (get_or-drop a t k 0) ∙ sym (get_or-take (b - a) (drop a t) k 0 l) ∙ e)
-
-  pub ends_at_feed : b < length t → get_or t b 0 ≡ 10 → Begins (drop a t) (take (b - a) (drop a t)) (drop (b + 1) t)
-  ends_at_feed l e =
-      record { clear = part_clear; parts = inl (split ∙ ap (λ (x : List ℕ). take (b - a) (drop a t) ++ x) (drop_more t b 0 l ∙ ap (λ (x : ℕ). x ∷ drop (b + 1) t) e)) }
-
-  pub ends_with_text : a < length t → length t ≤ b → Begins (drop a t) (take (b - a) (drop a t)) (drop b t)
-  ends_with_text l h =
-      let z : drop b t ≡ [] = drop_all b t h in
-      record { clear = part_clear; parts = inr (split ∙ ap (λ (x : List ℕ). take (b - a) (drop a t) ++ x) z ∙ append-nil (take (b - a) (drop a t)), z, omega (arith, part_length)) }
+-- a text cut at its first line feed begins with the line in front of it
+pub begins_cut : (text line : List ℕ) (rest : Option (Bor (List ℕ))) (none : Bor (List ℕ)) → none.now ≡ [] → 0 < length text → CutAt 10 text line rest → Begins text line (unwrap_or rest none).now
+begins_cut text line None none empty some w = record { clear = w.0; parts = inr (w.1, empty, omega (arith, ap length w.1)) }
+begins_cut text line (Some rest) none empty some w = record { clear = w.0; parts = inl w.1 }

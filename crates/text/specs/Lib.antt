@@ -1,4 +1,5 @@
 pub mod Refusals
+pub mod Cuts
 pub mod Lines
 pub mod Cursor
 pub mod Figures

@@ -1,5 +1,6 @@
 -- The lines of a text.
-use Rattle.std.specs.Prelude.{◌≡◌, ℕ, ◌<◌, cond, ◌⊎◌, List, [], ◌∷◌, ◌++◌, length, ◌==◌, ◌≢◌, slice_index}
+use Rattle.std.specs.Prelude.{◌≡◌, ℕ, ◌<◌, cond, ◌⊎◌, List, [], ◌∷◌, ◌++◌, length, ◌==◌}
+use Rattle.text.specs.Cuts.{Without}
 
 -- b in front of the first line
 abbrev pub grow : ℕ → List (List ℕ) → List (List ℕ)
@@ -18,7 +19,7 @@ behind_line (b ∷ bs) = cond (b == 10) bs (behind_line bs)
 
 -- no byte of the line is a line feed
 abbrev pub NoFeed : List ℕ → Type 0
-NoFeed line = (k : ℕ) → k < length line → slice_index line k ≢ 10
+NoFeed line = Without 10 line
 
 -- a text begins with a line, and goes on with the rest: after the line's feed, or the line is the last and is not empty
 pub record Begins (text line rest : List ℕ) : Type 0 where

@@ -1,5 +1,7 @@
 -- What a refusal says.
 use Rattle.std.specs.Prelude.{ℕ, List, [], ◌∷◌}
+use Rattle.text.specs.declared.refusal.Reason.{Reason}
+use Rattle.text.specs.declared.refusal.Reason.TheVariants.{OutOfRange, LevelOpen, NoLevelLeft, NoLevelOpen, NoPassLeft, NoLetter, LooseMark, LongWord, TooManyWords, BadRow, FullTally, FullSettledBook, FullBook, BadPattern, ShortMemory, BadSheet}
 use Rattle.text.specs.declared.refusal.Refusal.{Refusal}
 
 -- Six numbers: its own number, the line and the column (both count from 1, columns in bytes), and the level, length
@@ -19,9 +21,28 @@ at_line number line = number ∷ line ∷ 0 ∷ 0 ∷ 0 ∷ 0 ∷ []
 abbrev pub at_byte : ℕ → ℕ → ℕ → Refused
 at_byte number line column = number ∷ line ∷ column ∷ 0 ∷ 0 ∷ 0 ∷ []
 
+-- the number of a reason
+abbrev pub number_of : Reason → ℕ
+number_of OutOfRange = 1
+number_of LevelOpen = 2
+number_of NoLevelLeft = 3
+number_of NoLevelOpen = 4
+number_of NoPassLeft = 5
+number_of NoLetter = 6
+number_of LooseMark = 7
+number_of LongWord = 8
+number_of TooManyWords = 9
+number_of BadRow = 10
+number_of FullTally = 11
+number_of FullSettledBook = 12
+number_of FullBook = 13
+number_of BadPattern = 14
+number_of ShortMemory = 15
+number_of BadSheet = 16
+
 -- the six numbers of a refusal
 abbrev pub six_of : Refusal → Refused
-six_of r = r.number ∷ r.line ∷ r.column ∷ r.level ∷ r.length ∷ r.place ∷ []
+six_of r = number_of r.reason ∷ r.line ∷ r.column ∷ r.level ∷ r.length ∷ r.place ∷ []
 
 -- text memory that is shorter than the text
 abbrev pub short_refused : Refused

@@ -1,11 +1,10 @@
 //! Where a reader of lines stands.
-ghost use Rattle.std.specs.Prelude.{◌≤◌, length};
+ghost use Rattle.std.specs.Prelude.{◌+◌, ◌^◌, ◌<◌, length};
 
-/// A text that is read line by line: `pos` is where the next line begins, and `number` counts the lines read.
+/// The lines of a text, one after the other: `rest` is what is still to be read, and `number` counts the lines read.
 #[derive(Clone, Copy)]
 pub struct Lines<'a> {
-    pub text: &'a [u8],
-    pub pos: usize,
+    pub rest: &'a [u8],
     pub number: usize,
-    ghost placed: { (pos ≤ length text.now) × (number ≤ pos) },
+    ghost counted: { number + length rest.now < 2 ^ 64 },
 }

@@ -1,6 +1,8 @@
 //! Reading the figures of a line.
-ghost use Rattle.std.specs.Prelude.{◌≡◌, ◌∷◌};
-ghost use Rattle.text.specs.Figures.{pieces, figure_of, figures_of, pieces_after};
+ghost use Rattle.std.specs.Prelude.{◌≡◌};
+ghost use Rattle.text.specs.Figures.{pieces, figure_of, figures_of};
+
+use crate::cuts::cut;
 
 /// What stands between neighbouring figures.
 pub const COMMA: u8 = b',';
@@ -16,7 +18,7 @@ pub fn read_figures<const N: usize>(line: &[u8]) -> Option<[u32; N]>
     let mut figures = [0; N];
     let mut rest = Some(line);
     for figure in figures.iter_mut() {
-        let (piece, after) = cut(rest?);
+        let (piece, after) = cut(rest?, COMMA);
         *figure = read_figure(piece)?;
         rest = after;
     }
@@ -24,18 +26,6 @@ pub fn read_figures<const N: usize>(line: &[u8]) -> Option<[u32; N]>
         Some(_) => None,
         None => Some(figures),
     }
-}
-
-/// The line up to its first comma, and what follows that comma, if there is one.
-fn cut(line: &[u8]) -> (&[u8], Option<&[u8]>)
-    ensures { pieces line.now ≡ result.0.now ∷ pieces_after result.1 }
-{
-    for (i, b) in line.iter().enumerate() {
-        if *b == COMMA {
-            return (&line[0..i], Some(&line[i + 1..]));
-        }
-    }
-    (line, None)
 }
 
 /// The value of a piece, if it is 1 to 7 decimal digits and nothing else.

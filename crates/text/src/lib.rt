@@ -2,6 +2,7 @@
 #![tactic(auto)]
 
 pub mod cursor;
+mod cuts;
 pub mod figures;
 pub mod lines;
 pub mod memory;

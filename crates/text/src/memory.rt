@@ -1,20 +1,23 @@
 //! Writing a line of figures into lent text memory.
-ghost use Rattle.std.specs.Prelude.{◌≡◌, ◌+◌, ◌<◌, ◌≤◌, [], ◌∷◌, length, decimal};
+ghost use Rattle.std.specs.Prelude.{◌≡◌, ◌+◌, ◌≤◌, length, decimal};
 ghost use Rattle.text.specs.Refusals.{six_of, short_refused};
 ghost use Rattle.text.specs.Written.{commaed, line_of, overlaid, Wrote};
 
 use crate::figures::COMMA;
-use crate::refusal::Refusal;
+use crate::refusal::{Reason, Refusal};
+use itoa::Buffer;
+use thiserror::Error;
 
 /// The lent memory is shorter than the line.
-#[derive(Clone, Copy)]
+#[derive(Clone, Copy, PartialEq, Eq, Debug, Error)]
+#[error("the line is longer than its memory")]
 pub struct Short;
 
-impl Short {
-    pub fn refusal(self) -> Refusal
-        ensures { six_of result ≡ short_refused }
-    {
-        Refusal::bare(15)
+impl From<Short> for Refusal {
+    ghost from_gives = { λ _ r. six_of r ≡ short_refused };
+
+    fn from(_short: Short) -> Refusal {
+        Refusal::bare(Reason::ShortMemory)
     }
 }
 
@@ -26,8 +29,8 @@ pub fn write_line(prefix: &[u8], figures: &[u64], memory: &mut [u8]) -> Result<u
     if line_length(prefix, figures) > memory.len() as u128 {
         return Err(Short);
     }
-    memory[0..prefix.len()].copy_from_slice(prefix);
-    Ok(put_figures(memory, prefix.len(), figures))
+    let at = put(memory, 0, prefix);
+    Ok(put_figures(memory, at, figures))
 }
 
 /// The length of the line; a `u128` holds it, however many figures there are.
@@ -37,16 +40,9 @@ fn line_length(prefix: &[u8], figures: &[u64]) -> u128
     let commas = figures.len().saturating_sub(1);
     let mut total = prefix.len() as u128 + commas as u128;
     for figure in figures {
-        total += digits(*figure) as u128;
+        total += Buffer::new().format(*figure).len() as u128;
     }
     total
-}
-
-/// How many digits `n` has in decimal.
-fn digits(n: u64) -> usize
-    ensures { result ≡ length (decimal n) }
-{
-    if n < 10 { 1 } else { digits(n / 10) + 1 }
 }
 
 /// Writes the figures from `at` on, with a comma between neighbours, and answers where they end.
@@ -60,7 +56,7 @@ fn put_figures(memory: &mut [u8], at: usize, figures: &[u64]) -> usize
     };
     let mut end = put_number(memory, at, *first);
     for figure in rest {
-        end = put_byte(memory, end, COMMA);
+        end = put(memory, end, &[COMMA]);
         end = put_number(memory, end, *figure);
     }
     end
@@ -72,19 +68,16 @@ fn put_number(memory: &mut [u8], at: usize, n: u64) -> usize
     ensures end { result ≡ at + length (decimal n) }
     ensures text { memory.new ≡ overlaid memory.old at (decimal n) }
 {
-    if n < 10 {
-        return put_byte(memory, at, b'0' + n as u8);
-    }
-    let last = put_number(memory, at, n / 10);
-    put_byte(memory, last, b'0' + (n % 10) as u8)
+    put(memory, at, Buffer::new().format(n).as_bytes())
 }
 
-/// Writes one byte at `at`, and answers where it ends.
-fn put_byte(memory: &mut [u8], at: usize, byte: u8) -> usize
-    requires { at < length memory.old }
-    ensures end { result ≡ at + 1 }
-    ensures text { memory.new ≡ overlaid memory.old at (byte ∷ []) }
+/// Writes a text from `at` on, and answers where it ends.
+fn put(memory: &mut [u8], at: usize, text: &[u8]) -> usize
+    requires { at + length text.now ≤ length memory.old }
+    ensures end { result ≡ at + length text.now }
+    ensures text { memory.new ≡ overlaid memory.old at text.now }
 {
-    memory[at] = byte;
-    at + 1
+    let end = at + text.len();
+    memory[at..end].copy_from_slice(text);
+    end
 }

@@ -2,7 +2,7 @@ use Rattle.std.proofs.Common.{◌≡◌, ℕ, ◌+◌, ◌-◌, List, [], take, 
 use native.Mathlib.Nat.{sub-zero}
 use Rattle.std.proofs.lemmas.List.{length-replicate, length-set, take_more_set, take_all}
 use Rattle.text.specs.Figures.{pieces, pieces_after}
-use Rattle.text.proofs.Cuts.{pieces_some}
+use Rattle.text.proofs.Pieces.{pieces_cut, pieces_some}
 use Rattle.text.proofs.Values.{onward, onward_more, onward_refused, onward_other, onward_end}
 use Rattle.text.proofs.figures.read_figures.Goals as goal
 
@@ -27,7 +27,7 @@ loop-figure-preserved g c =
       length-set items i v ∙ c.loop-figure.invariant.0,
       ap (λ done. onward done (g.row.N - (i + 1)) ps) (take_more_set items i v (omega arith))
           ∙ onward_more (take i items) (g.row.N - i) (g.row.N - (i + 1)) c.cut.result.0.now ps v (omega arith) c.in_ok-figure.ensures
-          ∙ ap (onward (take i items) (g.row.N - i)) (sym c.cut.ensures)
+          ∙ ap (onward (take i items) (g.row.N - i)) (sym (pieces_cut _ _ c.cut.result.1 c.cut.ensures))
           ∙ left_at _ _ _ _ _ c.in_ok-rest.was c.loop-figure.invariant.1,
     )
 
@@ -37,7 +37,7 @@ returns-in_err-figure g c =
     let i = c.loop-figure.figure-index in
     c.from_residual-in_err-figure.ensures
     ∙ onward_refused (take i items) (g.row.N - i) c.cut.result.0.now (pieces_after c.cut.result.1) c.in_err-figure.ensures
-    ∙ ap (onward (take i items) (g.row.N - i)) (sym c.cut.ensures)
+    ∙ ap (onward (take i items) (g.row.N - i)) (sym (pieces_cut _ _ c.cut.result.1 c.cut.ensures))
     ∙ left_at _ _ _ _ _ c.in_ok-rest.was c.loop-figure.invariant.1
 
 pub returns-in-Some : goal.returns-in-Some

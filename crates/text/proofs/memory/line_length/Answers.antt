@@ -12,8 +12,9 @@ loop-figure-preserved c =
     let i = c.loop-figure.figure-index in
     let n = get_or ns i 0 in
     let few : length (decimal n) ≤ 20 = length-decimal-le 20 n (omega arith) (omega (arith, c.type_inv.figures i)) (omega (arith, c.type_inv.figures i)) in
+    let long = ap length c.format.ensures.text in
     let more = ap length (joined_step decimal ns i c.loop-figure-test.true) ∙ length-append (flat_map decimal (take i ns)) (decimal n) in
-    (omega (arith, more, c.digits.ensures), omega (arith, few, c.digits.ensures))
+    (omega (arith, more, long), omega (arith, few, long))
 
 pub returns : goal.returns
 returns c =

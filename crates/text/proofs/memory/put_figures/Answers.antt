@@ -24,8 +24,8 @@ put_number-end-requires c =
 pub loop-figure-init : goal.loop-figure-init
 loop-figure-init c = (sym (add-zero c.put_number-end.result), sym (overlaid_none c.put_number-end.new.memory c.put_number-end.result))
 
-pub put_byte-end-requires : goal.put_byte-end-requires
-put_byte-end-requires c =
+pub put-end-requires : goal.put-end-requires
+put-end-requires c =
     omega (arith, room_next c.args.figures.now c.args.at c.put_number-end.result (length c.args.memory.now) c.loop-figure.figure-index c.requires c.put_number-end.ensures.end c.loop-figure-test.true)
 
 pub put_number-end-requires-in-loop-figure : goal.put_number-end-requires-in-loop-figure
@@ -44,9 +44,9 @@ loop-figure-preserved c =
     let more = joined_step behind rest i c.loop-figure-test.true in
     let next = room_next ns c.args.at at (length c.args.memory.now) i c.requires c.put_number-end.ensures.end c.loop-figure-test.true in
     let room : at + length text < length m = omega arith in (
-      omega (arith, ap length more ∙ length-append text (behind n), c.put_number-end-in-loop-figure.ensures.end, c.put_byte-end.ensures.end),
+      omega (arith, ap length more ∙ length-append text (behind n), c.put_number-end-in-loop-figure.ensures.end, c.put-end.ensures.end),
       c.put_number-end-in-loop-figure.ensures.text
-          ∙ ap₂ (λ (x : List ℕ) (k : ℕ). overlaid x k (decimal n)) (c.put_byte-end.ensures.text ∙ ap (λ (x : List ℕ). overlaid x c.loop-figure.end (44 ∷ [])) c.loop-figure.invariant.1) c.put_byte-end.ensures.end
+          ∙ ap₂ (λ (x : List ℕ) (k : ℕ). overlaid x k (decimal n)) (c.put-end.ensures.text ∙ ap (λ (x : List ℕ). overlaid x c.loop-figure.end (44 ∷ [])) c.loop-figure.invariant.1) c.put-end.ensures.end
           ∙ overlaid_behind m at text c.loop-figure.end n room c.loop-figure.invariant.0
           ∙ ap (overlaid m at) (sym more),
     )
