@@ -1,11 +1,11 @@
 -- Why the reading of a line says in the subject's words what the line is: the theorem behind `read_line`.
-use Rattle.std.proofs.Common.{◌≡◌, ℕ, zero, suc, ◌+◌, ◌-◌, ◌*◌, ◌/◌, ◌%◌, ◌^◌, ◌<◌, ◌≤◌, Bool, true, false, cond, ltb, leb, ◌⊎◌, List, [], ◌∷◌, ◌++◌, length, get_or, take, drop, sym, refl, ap, ◌∙◌, subst, ap₂, inl, inr, ⊎_elim, append-nil, lt_of_lt_of_le, add-zero, pow-suc, add-one, arith, pow_pos, pow_mono, pow-add}
+use Rattle.std.proofs.Common.{◌≡◌, ℕ, zero, suc, ◌+◌, ◌-◌, ◌*◌, ◌/◌, ◌%◌, ◌^◌, ◌<◌, ◌≤◌, Bool, true, false, cond, ltb, leb, ◌⊎◌, List, [], ◌∷◌, ◌++◌, length, Some, None, Option, get_or, take, drop, sym, refl, ap, ◌∙◌, subst, ap₂, inl, inr, ⊎_elim, append-nil, lt_of_lt_of_le, add-zero, pow-suc, add-one, arith, pow_pos, pow_mono, pow-add}
 use native.Mathlib.Nat.{add-div_right, add-mul-div_right, div-eq_of_lt, zero-div}
 use native.Mathlib.Decide.{le_ind}
 use Rattle.std.proofs.lemmas.List.{get_or_append_left, get_or_at, get_or-take, get_or_past, length-take-le, length-append, take-append-drop, take_all}
 use Rattle.std.proofs.lemmas.Bool.{cases_lt, cases_Bool, cases_order, ltb-true, ltb-false, leb-true, leb-false, eqb-true, eq-eqb, false≢true, both_ways}
 use Rattle.words.specs.declared.line.Kind.{Kind}
-use Rattle.words.specs.declared.line.Kind.TheVariants.{Letter, Mark, Other}
+use Rattle.words.specs.declared.line.Kind.TheVariants.{Letter, Mark}
 use Rattle.text.specs.Refusals.{at_byte}
 use Rattle.words.specs.Words.{bit, hyphen, longest}
 use Rattle.words.specs.Line.{kind_of, kind_at, symbols_of, is_letter, bit_of, letters_to, marks_to, after_letter, fault_of, fault_at, First, none, fault, first_of, or_else, first_to, reading, reading_by}
@@ -23,19 +23,19 @@ clean_each bs (suc i) j h e =
     (λ (l : i ≤ j). let q : i ≡ j = omega arith in subst (λ (x : ℕ). fault_at bs x ≡ 0) q p.1)
     (cases_lt j i)
 
-abbrev FineKind : Kind → Bool → Bool → ℕ → Type 0
-FineKind k after last n = ((is_letter k ≡ true) × (n < longest)) ⊎ (((h : Bool) × (k ≡ Mark h)) × (after ≡ true) × (last ≡ false))
+abbrev FineKind : Option Kind → Bool → Bool → ℕ → Type 0
+FineKind k after last n = ((is_letter k ≡ true) × (n < longest)) ⊎ (((h : Bool) × (k ≡ Some (Mark h))) × (after ≡ true) × (last ≡ false))
 
 no_excess : (b : Bool) → ◌≡◌ {A = ℕ} (cond b 0 8) 0 → b ≡ true
 no_excess true z = refl
 no_excess false z = absurd (omega (arith, z))
 
-fine : (k : Kind) (after last : Bool) (n : ℕ) → fault_of k after last n ≡ 0 → FineKind k after last n
-fine (Letter s) after last n z = inl (refl, ltb-true n longest (no_excess (ltb n longest) z))
-fine (Mark h) true true n z = absurd (omega (arith, z))
-fine (Mark h) true false n z = inr ((h, refl), refl, refl)
-fine (Mark h) false last n z = absurd (omega (arith, z))
-fine Other after last n z = absurd (omega (arith, z))
+fine : (k : Option Kind) (after last : Bool) (n : ℕ) → fault_of k after last n ≡ 0 → FineKind k after last n
+fine (Some (Letter s)) after last n z = inl (refl, ltb-true n longest (no_excess (ltb n longest) z))
+fine (Some (Mark h)) true true n z = absurd (omega (arith, z))
+fine (Some (Mark h)) true false n z = inr ((h, refl), refl, refl)
+fine (Some (Mark h)) false last n z = absurd (omega (arith, z))
+fine None after last n z = absurd (omega (arith, z))
 
 -- a byte without fault is a letter, or a mark after a letter that does not end the line
 fine_at : (bs : List ℕ) (i : ℕ) → fault_at bs i ≡ 0 → LetterAt bs i ⊎ (MarkAt bs i × (after_letter bs i ≡ true) × (i + 1 < length bs))
@@ -58,10 +58,10 @@ after_mark bs i m = after_more bs i ∙ ap is_letter m.1
 
 -- ---- the letters of a front
 
-letter_one : (k : Kind) → is_letter k ≡ true → length (symbols_of k) ≡ 1
-letter_one (Letter s) e = refl
-letter_one (Mark h) e = absurd (false≢true e)
-letter_one Other e = absurd (false≢true e)
+letter_one : (k : Option Kind) → is_letter k ≡ true → length (symbols_of k) ≡ 1
+letter_one (Some (Letter s)) e = refl
+letter_one (Some (Mark h)) e = absurd (false≢true e)
+letter_one None e = absurd (false≢true e)
 
 none_yet : (bs : List ℕ) → length (letters_to bs zero) ≡ 0
 unfolding letters_to
@@ -79,10 +79,10 @@ unfolding letters_to
 same_letters xs ys zero f = refl
 same_letters xs ys (suc n) f = ap₂ (λ (a : List ℕ) (b : ℕ). a ++ symbols_of (kind_of b)) (same_letters xs ys n (λ j h. f j (omega arith))) (f n (omega arith))
 
-few_more : (k : Kind) (after last : Bool) (n : ℕ) → fault_of k after last n ≡ 0 → n ≤ longest → n + length (symbols_of k) ≤ longest
-few_more (Letter s) after last n z h = omega (arith, ltb-true n longest (no_excess (ltb n longest) z))
-few_more (Mark b) after last n z h = omega arith
-few_more Other after last n z h = omega arith
+few_more : (k : Option Kind) (after last : Bool) (n : ℕ) → fault_of k after last n ≡ 0 → n ≤ longest → n + length (symbols_of k) ≤ longest
+few_more (Some (Letter s)) after last n z h = omega (arith, ltb-true n longest (no_excess (ltb n longest) z))
+few_more (Some (Mark b)) after last n z h = omega arith
+few_more None after last n z h = omega arith
 
 few_clean : (bs : List ℕ) (i : ℕ) → first_to bs i ≡ none → length (letters_to bs i) ≤ longest
 unfolding first_to
@@ -194,9 +194,9 @@ module _ (line : List ℕ) (i : ℕ) (h : i < length line) where
   byte_there : (rest : List ℕ) → i < length (take (i + 1) line ++ rest)
   byte_there rest = omega (arith, long line rest (i + 1) up)
 
-  no_other : kind_at line i ≡ Other → Hopeful (take (i + 1) line) → ⊥
+  no_other : kind_at line i ≡ None → Hopeful (take (i + 1) line) → ⊥
   no_other k q =
-      let e : kind_at (take (i + 1) line ++ q.0) i ≡ Other = ap kind_of (same_byte q.0 i (omega arith)) ∙ k in
+      let e : kind_at (take (i + 1) line ++ q.0) i ≡ None = ap kind_of (same_byte q.0 i (omega arith)) ∙ k in
       ⊎_elim
       (λ (l : LetterAt (take (i + 1) line ++ q.0) i). false≢true (sym (ap is_letter e) ∙ l))
       (λ m. let w = m.0.1 in let z : ◌≡◌ {A = ℕ} 0 1 = cc in omega arith)
@@ -205,7 +205,7 @@ module _ (line : List ℕ) (i : ℕ) (h : i < length line) where
   no_mark : MarkAt line i → after_letter line i ≡ false → Hopeful (take (i + 1) line) → ⊥
   no_mark k a q =
       let xs = take (i + 1) line ++ q.0 in
-      let e : kind_at xs i ≡ Mark k.0 = ap kind_of (same_byte q.0 i (omega arith)) ∙ k.1 in
+      let e : kind_at xs i ≡ Some (Mark k.0) = ap kind_of (same_byte q.0 i (omega arith)) ∙ k.1 in
       ⊎_elim
       (λ (l : LetterAt xs i). false≢true (sym (ap is_letter e) ∙ l))
       (λ m. both_ways (after_letter line i) a (letter_before line i m.1.0 (letter_as line xs (i - 1) (sym (same_byte q.0 (i - 1) (omega arith))) m.1.1)))
@@ -232,20 +232,20 @@ loose true true k h e = (sym e, inr refl)
 loose true false k h e = absurd (omega (arith, e))
 loose false last k h e = (sym e, inl refl)
 
-explained : (line : List ℕ) (i k : ℕ) → i < length line → length (letters_to line i) ≤ longest → 1 ≤ k → (K : Kind) → kind_at line i ≡ K →
+explained : (line : List ℕ) (i k : ℕ) → i < length line → length (letters_to line i) ≤ longest → 1 ≤ k → (K : Option Kind) → kind_at line i ≡ K →
     fault_of K (after_letter line i) (leb (length line) (i + 1)) (length (letters_to line i)) ≡ k → Explained line i k
-explained line i k h few s (Letter c) e f =
+explained line i k h few s (Some (Letter c)) e f =
     let p = excess (ltb (length (letters_to line i)) longest) k s f in
     let l : LetterAt line i = ap is_letter e in
     let n : longest ≤ length (letters_to line i) = ltb-false (length (letters_to line i)) longest p.0 in
     let w : length (letters_to line i) ≡ longest = omega arith in
     (subst (λ (x : ℕ). Cause line i x) (sym p.1) (too_long l w), inl (no_letter_lem line i h l n))
-explained line i k h few s (Mark b) e f =
+explained line i k h few s (Some (Mark b)) e f =
     let p = loose (after_letter line i) (leb (length line) (i + 1)) k s f in (
       subst (λ (x : ℕ). Cause line i x) (sym p.0) (loose_mark (b, e)),
       ⊎_elim (λ a. inl (no_mark line i h (b, e) a)) (λ t. let q = leb-true (length line) (i + 1) t in inr ((b, e), omega arith)) p.1,
     )
-explained line i k h few s Other e f = (subst (λ (x : ℕ). Cause line i x) f (no_letter e), inl (no_other line i h e))
+explained line i k h few s None e f = (subst (λ (x : ℕ). Cause line i x) f (no_letter e), inl (no_other line i h e))
 
 explain : (line : List ℕ) (i k : ℕ) → i < length line → length (letters_to line i) ≤ longest → 1 ≤ k → fault_at line i ≡ k → Explained line i k
 unfolding fault_at
@@ -328,7 +328,7 @@ bit_above : (m n p : ℕ) → m < 2 ^ n → n < p → bit (m + 2 ^ n) p ≡ 0
 bit_above m n p h l = bit_none (m + 2 ^ n) (n + 1) p (omega (arith, pow-add 2 n 1)) (omega arith)
 
 -- one byte more of a line without fault: a hyphen after n letters adds bit n, where all marks were below
-marks_low : (bs : List ℕ) (i : ℕ) → first_to bs i ≡ none → fault_at bs i ≡ 0 → (h : Bool) → kind_at bs i ≡ Mark h → marks_to bs i < 2 ^ length (letters_to bs i)
+marks_low : (bs : List ℕ) (i : ℕ) → first_to bs i ≡ none → fault_at bs i ≡ 0 → (h : Bool) → kind_at bs i ≡ Some (Mark h) → marks_to bs i < 2 ^ length (letters_to bs i)
 marks_low bs i e z h k =
     let a : after_letter bs i ≡ true =
     ⊎_elim (λ (l : LetterAt bs i). absurd (false≢true (sym (ap is_letter k) ∙ l))) (λ m. m.1) (fine_at bs i z) in
@@ -340,12 +340,12 @@ Source bs i p = (j : ℕ) × (j < i) × HyphenAt bs j × (length (letters_to bs 
 later : (bs : List ℕ) (i p : ℕ) → Source bs i p → Source bs (suc i) p
 later bs i p s = (s.0, omega (arith, s.1), s.2, s.3)
 
-marks_step : (bs : List ℕ) (i p : ℕ) → (K : Kind) → kind_at bs i ≡ K → ((h : Bool) → K ≡ Mark h → marks_to bs i < 2 ^ length (letters_to bs i)) →
+marks_step : (bs : List ℕ) (i p : ℕ) → (K : Option Kind) → kind_at bs i ≡ K → ((h : Bool) → K ≡ Some (Mark h) → marks_to bs i < 2 ^ length (letters_to bs i)) →
     bit (marks_to bs i + bit_of K (length (letters_to bs i))) p ≡ 1 → (bit (marks_to bs i) p ≡ 1) ⊎ Source bs (suc i) p
-marks_step bs i p (Letter s) k low b = inl (subst (λ (x : ℕ). bit x p ≡ 1) (add-zero (marks_to bs i)) b)
-marks_step bs i p Other k low b = inl (subst (λ (x : ℕ). bit x p ≡ 1) (add-zero (marks_to bs i)) b)
-marks_step bs i p (Mark false) k low b = inl (subst (λ (x : ℕ). bit x p ≡ 1) (add-zero (marks_to bs i)) b)
-marks_step bs i p (Mark true) k low b =
+marks_step bs i p (Some (Letter s)) k low b = inl (subst (λ (x : ℕ). bit x p ≡ 1) (add-zero (marks_to bs i)) b)
+marks_step bs i p None k low b = inl (subst (λ (x : ℕ). bit x p ≡ 1) (add-zero (marks_to bs i)) b)
+marks_step bs i p (Some (Mark false)) k low b = inl (subst (λ (x : ℕ). bit x p ≡ 1) (add-zero (marks_to bs i)) b)
+marks_step bs i p (Some (Mark true)) k low b =
     let n = length (letters_to bs i) in
     ⊎_elim
     (λ (e : p ≡ n). inr (i, omega arith, k, sym e))
@@ -362,12 +362,12 @@ marks_from bs (suc i) p e b =
     ⊎_elim (λ c. later bs i p (marks_from bs i p q.0 c)) (λ s. s)
     (marks_step bs i p (kind_at bs i) refl (λ h k. marks_low bs i q.0 q.1 h k) b)
 
-marks_keep : (bs : List ℕ) (i p : ℕ) → (K : Kind) → ((h : Bool) → K ≡ Mark h → marks_to bs i < 2 ^ length (letters_to bs i)) →
+marks_keep : (bs : List ℕ) (i p : ℕ) → (K : Option Kind) → ((h : Bool) → K ≡ Some (Mark h) → marks_to bs i < 2 ^ length (letters_to bs i)) →
     bit (marks_to bs i) p ≡ 1 → bit (marks_to bs i + bit_of K (length (letters_to bs i))) p ≡ 1
-marks_keep bs i p (Letter s) low b = subst (λ (x : ℕ). bit x p ≡ 1) (sym (add-zero (marks_to bs i))) b
-marks_keep bs i p Other low b = subst (λ (x : ℕ). bit x p ≡ 1) (sym (add-zero (marks_to bs i))) b
-marks_keep bs i p (Mark false) low b = subst (λ (x : ℕ). bit x p ≡ 1) (sym (add-zero (marks_to bs i))) b
-marks_keep bs i p (Mark true) low b =
+marks_keep bs i p (Some (Letter s)) low b = subst (λ (x : ℕ). bit x p ≡ 1) (sym (add-zero (marks_to bs i))) b
+marks_keep bs i p None low b = subst (λ (x : ℕ). bit x p ≡ 1) (sym (add-zero (marks_to bs i))) b
+marks_keep bs i p (Some (Mark false)) low b = subst (λ (x : ℕ). bit x p ≡ 1) (sym (add-zero (marks_to bs i))) b
+marks_keep bs i p (Some (Mark true)) low b =
     let n = length (letters_to bs i) in
     ⊎_elim
     (λ (l : p < n). bit_below (marks_to bs i) n p l ∙ b)
@@ -383,10 +383,10 @@ marks_into bs (suc i) j e h y =
     (λ (l : j < i). marks_keep bs i (length (letters_to bs j)) (kind_at bs i) (λ b k. marks_low bs i q.0 q.1 b k) (marks_into bs i j q.0 l y))
     (λ (l : i ≤ j).
     let s : j ≡ i = omega arith in
-    let k : kind_at bs i ≡ Mark true = subst (λ (x : ℕ). HyphenAt bs x) s y in
+    let k : kind_at bs i ≡ Some (Mark true) = subst (λ (x : ℕ). HyphenAt bs x) s y in
     let n = length (letters_to bs i) in
     ap (λ (x : ℕ). bit (marks_to bs i + bit_of (kind_at bs i) n) (length (letters_to bs x))) s
-    ∙ ap (λ (K : Kind). bit (marks_to bs i + bit_of K n) n) k
+    ∙ ap (λ (K : Option Kind). bit (marks_to bs i + bit_of K n) n) k
     ∙ bit_own (marks_to bs i) n (marks_low bs i q.0 q.1 true k))
     (cases_lt j i)
 

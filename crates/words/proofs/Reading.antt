@@ -1,12 +1,12 @@
 -- The reader's loop: what holds after i bytes, what a byte of each kind does, and what the whole line comes to.
-use Rattle.std.proofs.Common.{◌≡◌, ℕ, zero, suc, ◌+◌, ◌-◌, ◌%◌, ◌^◌, ◌<◌, ◌≤◌, Bool, true, false, cond, ◌&&◌, ◌||◌, eqb, leb, List, [], ◌∷◌, ◌++◌, length, get_or, take, set, replicate, sym, refl, ap, ◌∙◌, subst, ap₂, subst₂, ⊎_elim, append-nil, add-zero, add_comm, one-mul, pow-suc, add-one, arith, lit<, pow_mono, pow-add}
+use Rattle.std.proofs.Common.{◌≡◌, ℕ, zero, suc, ◌+◌, ◌-◌, ◌%◌, ◌^◌, ◌<◌, ◌≤◌, Bool, true, false, cond, ◌&&◌, ◌||◌, eqb, leb, List, [], ◌∷◌, ◌++◌, length, Some, None, Option, get_or, take, set, replicate, sym, refl, ap, ◌∙◌, subst, ap₂, subst₂, ⊎_elim, append-nil, add-zero, add_comm, one-mul, pow-suc, add-one, arith, lit<, pow_mono, pow-add}
 use mathlib.Core.Path.{subst₃}
 use native.Mathlib.Decide.{le_ind}
 use lib.Bits.{bit_or, or_shifted_r, or_zero_r}
 use Rattle.std.proofs.lemmas.List.{get_or_append_left, get_or-append_right, length_push, get_or_push, length-append, length-replicate, take_at}
 use Rattle.std.proofs.lemmas.Bool.{cond_both, cases_lt, leb-true, le-leb, lt-leb, lt-ltb, and_parts, false≢true, cond-true}
 use Rattle.words.specs.declared.line.Kind.{Kind}
-use Rattle.words.specs.declared.line.Kind.TheVariants.{Letter, Mark, Other}
+use Rattle.words.specs.declared.line.Kind.TheVariants.{Letter, Mark}
 use Rattle.text.specs.Refusals.{at_byte}
 use Rattle.text.proofs.Padding.{zeros, pad_set}
 use Rattle.words.specs.Words.{alphabet, longest}
@@ -67,10 +67,10 @@ pub record Sound (xs : List ℕ) (m : ℕ) (after : Bool) : Type 0 where
   pub even : m % 2 ≡ 0
   pub some : after ≡ true → 1 ≤ length xs
 
-abbrev Symbol : Kind → Type 0
-Symbol (Letter s) = (1 ≤ s) × (s ≤ alphabet)
-Symbol (Mark h) = Unit {0}
-Symbol Other = Unit {0}
+abbrev Symbol : Option Kind → Type 0
+Symbol (Some (Letter s)) = (1 ≤ s) × (s ≤ alphabet)
+Symbol (Some (Mark h)) = Unit {0}
+Symbol None = Unit {0}
 
 symbol : (b : ℕ) → Symbol (kind_of b)
 symbol b =
@@ -95,8 +95,8 @@ bit_even : (h : Bool) (n m : ℕ) → 1 ≤ n → m % 2 ≡ 0 → (m + cond h (2
 bit_even true n m l e = omega (arith, pow_even n l)
 bit_even false n m l e = omega arith
 
-sound_more : (k : Kind) (after last : Bool) (xs : List ℕ) (m : ℕ) → Symbol k → fault_of k after last (length xs) ≡ 0 → Sound xs m after → Sound (xs ++ symbols_of k) (m + bit_of k (length xs)) (is_letter k)
-sound_more (Letter s) after last xs m r z h =
+sound_more : (k : Option Kind) (after last : Bool) (xs : List ℕ) (m : ℕ) → Symbol k → fault_of k after last (length xs) ≡ 0 → Sound xs m after → Sound (xs ++ symbols_of k) (m + bit_of k (length xs)) (is_letter k)
+sound_more (Some (Letter s)) after last xs m r z h =
     let n : length (xs ++ s ∷ []) ≡ length xs + 1 = length_push xs s in
     let le : length xs + slack after ≤ length (xs ++ s ∷ []) + 0 = omega (arith, slack_le after) in
     record {
@@ -108,14 +108,14 @@ sound_more (Letter s) after last xs m r z h =
       even = omega (arith, h.even);
       some = λ _. omega arith;
     }
-sound_more (Mark b) true true xs m r z h = omega (arith, z)
-sound_more (Mark b) true false xs m r z h =
+sound_more (Some (Mark b)) true true xs m r z h = omega (arith, z)
+sound_more (Some (Mark b)) true false xs m r z h =
     let n : 1 ≤ length xs = h.some refl in
     let l : m < 2 ^ length xs = subst (λ (x : ℕ). m < 2 ^ x) (add-zero (length xs)) h.low in
     subst (λ (ys : List ℕ). Sound ys (m + cond b (2 ^ length xs) 0) false) (sym (append-nil xs))
     (record { within = h.within; low = bit_low b (length xs) m l; even = bit_even b (length xs) m n h.even; some = λ e. absurd (false≢true e) })
-sound_more (Mark b) false last xs m r z h = omega (arith, z)
-sound_more Other after last xs m r z h = omega (arith, z)
+sound_more (Some (Mark b)) false last xs m r z h = omega (arith, z)
+sound_more None after last xs m r z h = omega (arith, z)
 
 pub inverse : (f : First) (k i : ℕ) → or_else f (first_of k i) ≡ none → (f ≡ none) × (k ≡ 0)
 inverse none zero i e = (refl, refl)
@@ -134,11 +134,11 @@ sound bs (suc i) e =
     sound_more (kind_at bs i) (after_letter bs i) (leb (length bs) (i + 1)) (letters_to bs i) (marks_to bs i) (symbol (get_or bs i 0)) (fault_zero bs i p.1) (sound bs i p.0)
 
 -- a line without fault ends in a letter
-last_letter : (k : Kind) (after : Bool) (n : ℕ) → fault_of k after true n ≡ 0 → is_letter k ≡ true
-last_letter (Letter s) after n z = refl
-last_letter (Mark h) true n z = absurd (omega (arith, z))
-last_letter (Mark h) false n z = absurd (omega (arith, z))
-last_letter Other after n z = absurd (omega (arith, z))
+last_letter : (k : Option Kind) (after : Bool) (n : ℕ) → fault_of k after true n ≡ 0 → is_letter k ≡ true
+last_letter (Some (Letter s)) after n z = refl
+last_letter (Some (Mark h)) true n z = absurd (omega (arith, z))
+last_letter (Some (Mark h)) false n z = absurd (omega (arith, z))
+last_letter None after n z = absurd (omega (arith, z))
 
 pub ends : (bs : List ℕ) (n : ℕ) → length bs ≡ n → 0 < n → first_to bs n ≡ none → after_letter bs n ≡ true
 unfolding first_to after_letter
@@ -162,39 +162,39 @@ pub at_start : (bs : List ℕ) → At bs 0 (replicate longest 0) 0 0 false
 unfolding first_to letters_to marks_to after_letter
 at_start bs = record { clean = refl; counted = refl; room = omega arith; filled = refl; marked = refl; follows = refl }
 
-pub fault_is : (bs : List ℕ) (i : ℕ) (k : Kind) (a : Bool) → kind_at bs i ≡ k → a ≡ after_letter bs i → fault_at bs i ≡ fault_of k a (leb (length bs) (i + 1)) (length (letters_to bs i))
+pub fault_is : (bs : List ℕ) (i : ℕ) (k : Option Kind) (a : Bool) → kind_at bs i ≡ k → a ≡ after_letter bs i → fault_at bs i ≡ fault_of k a (leb (length bs) (i + 1)) (length (letters_to bs i))
 unfolding fault_at
-fault_is bs i k a e f = ap₂ (λ (x : Kind) (y : Bool). fault_of x y (leb (length bs) (i + 1)) (length (letters_to bs i))) e (sym f)
+fault_is bs i k a e f = ap₂ (λ (x : Option Kind) (y : Bool). fault_of x y (leb (length bs) (i + 1)) (length (letters_to bs i))) e (sym f)
 
 or_bit : (h : Bool) (n m : ℕ) → m < 2 ^ n → bit_or m (cond h (2 ^ n) 0) ≡ m + cond h (2 ^ n) 0
 or_bit true n m l = ap (bit_or m) (sym (one-mul (2 ^ n))) ∙ or_shifted_r 1 n m l ∙ ap (λ (x : ℕ). x + m) (one-mul (2 ^ n)) ∙ add_comm (2 ^ n) m
 or_bit false n m l = or_zero_r m ∙ sym (add-zero m)
 
 module _ (bs : List ℕ) (i : ℕ) (L : List ℕ) (n m : ℕ) (a : Bool) (at : At bs i L n m a) where
-  pub turn_letter : (s : ℕ) → kind_at bs i ≡ Letter s → n < longest → At bs (i + 1) (set L n s) (n + 1) m true
+  pub turn_letter : (s : ℕ) → kind_at bs i ≡ Some (Letter s) → n < longest → At bs (i + 1) (set L n s) (n + 1) m true
   turn_letter s k h =
-      let e : letters_to bs (i + 1) ≡ letters_to bs i ++ s ∷ [] = letters_more bs i ∙ ap (λ (x : Kind). letters_to bs i ++ symbols_of x) k in
-      let z : fault_at bs i ≡ 0 = fault_is bs i (Letter s) a k at.follows ∙ cond-true _ 0 8 (lt-ltb _ longest (omega arith)) in
+      let e : letters_to bs (i + 1) ≡ letters_to bs i ++ s ∷ [] = letters_more bs i ∙ ap (λ (x : Option Kind). letters_to bs i ++ symbols_of x) k in
+      let z : fault_at bs i ≡ 0 = fault_is bs i (Some (Letter s)) a k at.follows ∙ cond-true _ 0 8 (lt-ltb _ longest (omega arith)) in
       record {
         clean = first_more bs i at.clean z;
         counted = ap (λ (x : ℕ). x + 1) at.counted ∙ sym (length_push (letters_to bs i) s) ∙ ap length (sym e);
         room = omega arith;
         filled = ap (λ (x : List ℕ). set x n s) at.filled ∙ pad_set longest (letters_to bs i) n s at.counted h ∙ ap (λ (x : List ℕ). x ++ replicate (longest - (n + 1)) 0) (sym e);
-        marked = at.marked ∙ sym (marks_more bs i ∙ ap (λ (x : Kind). marks_to bs i + bit_of x (length (letters_to bs i))) k ∙ add-zero (marks_to bs i));
+        marked = at.marked ∙ sym (marks_more bs i ∙ ap (λ (x : Option Kind). marks_to bs i + bit_of x (length (letters_to bs i))) k ∙ add-zero (marks_to bs i));
         follows = sym (after_more bs i ∙ ap is_letter k);
       }
 
-  pub turn_mark : (h : Bool) → kind_at bs i ≡ Mark h → a ≡ true → i + 1 < length bs → (bit : ℕ) → bit ≡ cond h (2 ^ n) 0 → At bs (i + 1) L n (bit_or m bit) false
+  pub turn_mark : (h : Bool) → kind_at bs i ≡ Some (Mark h) → a ≡ true → i + 1 < length bs → (bit : ℕ) → bit ≡ cond h (2 ^ n) 0 → At bs (i + 1) L n (bit_or m bit) false
   turn_mark h k t r bit q =
-      let e : letters_to bs (i + 1) ≡ letters_to bs i = letters_more bs i ∙ ap (λ (x : Kind). letters_to bs i ++ symbols_of x) k ∙ append-nil (letters_to bs i) in
+      let e : letters_to bs (i + 1) ≡ letters_to bs i = letters_more bs i ∙ ap (λ (x : Option Kind). letters_to bs i ++ symbols_of x) k ∙ append-nil (letters_to bs i) in
       let l : m < 2 ^ n = subst₂ (λ (x y : ℕ). x < 2 ^ y) (sym at.marked) (ap (λ (x : Bool). length (letters_to bs i) + slack x) (sym at.follows ∙ t) ∙ add-zero (length (letters_to bs i)) ∙ sym at.counted) (sound bs i at.clean).low in
       record {
-        clean = first_more bs i at.clean (fault_is bs i (Mark h) a k at.follows ∙ ap₂ (λ (x y : Bool). cond x (cond y 7 0) 7) t (lt-leb (length bs) (i + 1) r));
+        clean = first_more bs i at.clean (fault_is bs i (Some (Mark h)) a k at.follows ∙ ap₂ (λ (x y : Bool). cond x (cond y 7 0) 7) t (lt-leb (length bs) (i + 1) r));
         counted = at.counted ∙ ap length (sym e);
         room = at.room;
         filled = at.filled ∙ ap (λ (x : List ℕ). x ++ replicate (longest - n) 0) (sym e);
         marked = ap (bit_or m) q ∙ or_bit h n m l ∙ ap₂ (λ (x y : ℕ). x + cond h (2 ^ y) 0) at.marked at.counted
-            ∙ sym (marks_more bs i ∙ ap (λ (x : Kind). marks_to bs i + bit_of x (length (letters_to bs i))) k);
+            ∙ sym (marks_more bs i ∙ ap (λ (x : Option Kind). marks_to bs i + bit_of x (length (letters_to bs i))) k);
         follows = sym (after_more bs i ∙ ap is_letter k);
       }
 

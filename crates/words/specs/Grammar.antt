@@ -1,6 +1,6 @@
 -- What a word line is, in the words of the subject, and where the fault of another line stands.
-use Rattle.std.specs.Prelude.{◌≡◌, ℕ, ◌+◌, ◌-◌, ◌<◌, ◌≤◌, Bool, true, ◌⊎◌, List, [], ◌++◌, length, take}
-use Rattle.words.specs.declared.line.Kind.TheVariants.{Mark, Other}
+use Rattle.std.specs.Prelude.{◌≡◌, ℕ, ◌+◌, ◌-◌, ◌<◌, ◌≤◌, Bool, true, ◌⊎◌, List, [], ◌++◌, length, take, Some, None}
+use Rattle.words.specs.declared.line.Kind.TheVariants.{Mark}
 use Rattle.text.specs.Refusals.{Refused, at_byte}
 use Rattle.words.specs.Words.{Headword, hyphen, longest}
 use Rattle.words.specs.Line.{kind_at, is_letter, letters_to, Reading, blank, spells, refused}
@@ -10,10 +10,10 @@ abbrev pub LetterAt : List ℕ → ℕ → Type 0
 LetterAt line i = is_letter (kind_at line i) ≡ true
 
 abbrev pub MarkAt : List ℕ → ℕ → Type 0
-MarkAt line i = (h : Bool) × (kind_at line i ≡ Mark h)
+MarkAt line i = (h : Bool) × (kind_at line i ≡ Some (Mark h))
 
 abbrev pub HyphenAt : List ℕ → ℕ → Type 0
-HyphenAt line i = kind_at line i ≡ Mark true
+HyphenAt line i = kind_at line i ≡ Some (Mark true)
 
 -- a letter stands right before byte i, and one right after it
 abbrev pub BetweenLetters : List ℕ → ℕ → Type 0
@@ -47,7 +47,7 @@ pub record Spent (line : List ℕ) (i : ℕ) : Type 0 where
 
 -- why byte i offends: it is no letter and no mark; it is a mark; it is a letter after 48 letters
 pub data Cause (line : List ℕ) (i : ℕ) : ℕ → Type 0 where
-  no_letter : kind_at line i ≡ Other → Cause line i 6
+  no_letter : kind_at line i ≡ None → Cause line i 6
   loose_mark : MarkAt line i → Cause line i 7
   too_long : LetterAt line i → length (letters_to line i) ≡ longest → Cause line i 8
 

@@ -6,16 +6,15 @@ ghost use Rattle.words.specs.Views.{answer};
 
 use crate::word::{LONGEST, Word};
 
-/// What a byte of a word line is: a letter with its symbol, a mark that is a hyphen or none, or neither.
+/// What a byte of a word line may be: a letter with its symbol, or a mark that is a hyphen or none.
 #[derive(Clone, Copy)]
 pub enum Kind {
     Letter(u8),
     Mark(bool),
-    Other,
 }
 
 /// Why a word line is refused, and at which byte of which line.
-#[derive(Clone, Copy)]
+#[derive(Clone, Copy, PartialEq, Eq, Debug)]
 pub enum LineFault {
     /// A byte that is no letter and no mark.
     NoLetter { line: usize, column: usize },
@@ -25,15 +24,15 @@ pub enum LineFault {
     TooLong { line: usize, column: usize },
 }
 
-fn classify(b: u8) -> Kind
+fn classify(b: u8) -> Option<Kind>
     ensures { result ≡ kind_of b }
 {
     match b {
-        b'a'..=b'z' => Kind::Letter(b - 96),
-        b'A'..=b'Z' => Kind::Letter(b - 64),
-        b'-' | b'*' => Kind::Mark(true),
-        b'.' => Kind::Mark(false),
-        _ => Kind::Other,
+        b'a'..=b'z' => Some(Kind::Letter(b - 96)),
+        b'A'..=b'Z' => Some(Kind::Letter(b - 64)),
+        b'-' | b'*' => Some(Kind::Mark(true)),
+        b'.' => Some(Kind::Mark(false)),
+        _ => None,
     }
 }
 
@@ -60,7 +59,10 @@ pub fn read_line(line: usize, bytes: &[u8]) -> Result<Option<Word>, LineFault>
     let mut after_letter = false;
     for (i, b) in bytes.iter().enumerate() {
         let column = i + 1;
-        match classify(*b) {
+        let Some(kind) = classify(*b) else {
+            return Err(LineFault::NoLetter { line, column });
+        };
+        match kind {
             Kind::Letter(symbol) => {
                 if len >= LONGEST {
                     return Err(LineFault::TooLong { line, column });
@@ -76,7 +78,6 @@ pub fn read_line(line: usize, bytes: &[u8]) -> Result<Option<Word>, LineFault>
                 marks |= mark_bit(hyphen, len);
                 after_letter = false;
             }
-            Kind::Other => return Err(LineFault::NoLetter { line, column }),
         }
     }
     Ok(Some(Word {

@@ -6,7 +6,7 @@ ghost use Rattle.words.specs.Views.{headword};
 use crate::word::{Bounds, WIDEST, Word};
 
 /// A setting or bound is out of range.
-#[derive(Clone, Copy)]
+#[derive(Clone, Copy, PartialEq, Eq, Debug)]
 pub struct OutOfRange;
 
 impl Bounds {

@@ -5,24 +5,30 @@ ghost use Rattle.words.specs.Faults.{line_refused, range_refused};
 
 use crate::line::LineFault;
 use crate::measure::OutOfRange;
-use text::refusal::Refusal;
+use text::refusal::{Reason, Refusal};
 
-impl LineFault {
-    pub fn refusal(self) -> Refusal
-        ensures { six_of result ≡ line_refused self }
-    {
-        match self {
-            LineFault::NoLetter { line, column } => Refusal::at_byte(6, line, column),
-            LineFault::LooseMark { line, column } => Refusal::at_byte(7, line, column),
-            LineFault::TooLong { line, column } => Refusal::at_byte(8, line, column),
+impl From<LineFault> for Refusal {
+    ghost from_gives = { λ f r. six_of r ≡ line_refused f };
+
+    fn from(fault: LineFault) -> Refusal {
+        match fault {
+            LineFault::NoLetter { line, column } => {
+                Refusal::at_byte(Reason::NoLetter, line, column)
+            }
+            LineFault::LooseMark { line, column } => {
+                Refusal::at_byte(Reason::LooseMark, line, column)
+            }
+            LineFault::TooLong { line, column } => {
+                Refusal::at_byte(Reason::LongWord, line, column)
+            }
         }
     }
 }
 
-impl OutOfRange {
-    pub fn refusal(self) -> Refusal
-        ensures { six_of result ≡ range_refused }
-    {
-        Refusal::bare(1)
+impl From<OutOfRange> for Refusal {
+    ghost from_gives = { λ _ r. six_of r ≡ range_refused };
+
+    fn from(_fault: OutOfRange) -> Refusal {
+        Refusal::bare(Reason::OutOfRange)
     }
 }

@@ -1,7 +1,8 @@
 //! A row of numbers that may make a word.
-ghost use Rattle.std.specs.Prelude.{◌≡◌, ◌<◌, true, length, is_some};
+ghost use Rattle.std.specs.Prelude.{◌≡◌, ◌<◌, ◌≤◌, length, ◌==◌};
+ghost use Rattle.std.specs.List.{list_all};
 ghost use Rattle.words.specs.Words.{longest};
-ghost use Rattle.words.specs.Rows.{symbol_ok, symbols_ok, marks_ok, row_ok, Made};
+ghost use Rattle.words.specs.Rows.{is_symbol, symbols_ok, marks_ok, row_ok, Tried};
 
 use crate::word::{ALPHABET, LONGEST, Word};
 
@@ -13,27 +14,39 @@ pub struct WordRow {
     pub marks: u64,
 }
 
-// Whether a symbol is one of a letter, where the word has one, or 0, where it has none.
-fn symbol_fits(symbol: u8, used: bool) -> bool
-    ensures { result ≡ symbol_ok used symbol }
+/// A row that makes no word.
+#[derive(Clone, Copy, PartialEq, Eq, Debug)]
+pub struct NoWord;
+
+// Whether a number is the symbol of a letter.
+fn is_letter(symbol: u8) -> bool
+    ensures { result ≡ is_symbol symbol }
 {
-    if used {
-        symbol >= 1 && symbol <= ALPHABET
-    } else {
-        symbol == 0
-    }
+    symbol >= 1 && symbol <= ALPHABET
+}
+
+// Whether all are symbols of letters.
+fn are_letters(symbols: &[u8]) -> bool
+    ensures { result ≡ list_all is_symbol symbols.now }
+{
+    symbols.iter().all(|symbol| is_letter(*symbol))
+}
+
+// Whether all are 0, as symbols that a word does not use.
+fn are_unused(symbols: &[u8]) -> bool
+    ensures { result ≡ list_all (λ s. s == 0) symbols.now }
+{
+    symbols.iter().all(|symbol| *symbol == 0)
 }
 
 // Whether `len` letters come first, and then only 0.
 fn symbols_fit(letters: &[u8; LONGEST], len: usize) -> bool
-    ensures value { result ≡ symbols_ok len letters.now longest }
+    requires { len ≤ longest }
+    ensures value { result ≡ symbols_ok len letters.now }
     ensures full { length letters.now ≡ longest }
 {
-    let mut fit = true;
-    for (i, symbol) in letters.iter().enumerate() {
-        fit &= symbol_fits(*symbol, i < len);
-    }
-    fit
+    let (word, rest) = letters.split_at(len);
+    are_letters(word) && are_unused(rest)
 }
 
 // Whether bits stand only at the positions of a word of `len` letters.
@@ -48,28 +61,33 @@ impl WordRow {
     // Whether the row makes a word.
     fn makes_word(&self) -> bool
         ensures value { result ≡ row_ok self.now }
-        ensures full { result ≡ true → length self.now.letters ≡ longest }
+        ensures full { length self.now.letters ≡ longest }
     {
-        self.len >= 1
-            && self.len <= LONGEST
-            && symbols_fit(&self.letters, self.len)
-            && marks_fit(self.marks, self.len)
-    }
-
-    /// The word that the row makes, and none where it makes none.
-    pub fn word(&self) -> Option<Word>
-        ensures tested { is_some result ≡ row_ok self.now }
-        ensures meaning { Made self.now result }
-    {
-        if !self.makes_word() {
-            return None;
-        }
         let WordRow {
             len,
             letters,
             marks,
         } = *self;
-        Some(Word {
+        len >= 1 && len <= LONGEST && symbols_fit(&letters, len) && marks_fit(marks, len)
+    }
+}
+
+impl TryFrom<WordRow> for Word {
+    type Error = NoWord;
+
+    ghost try_from_gives = { Tried };
+
+    /// The word that a row makes, and none where it makes none.
+    fn try_from(row: WordRow) -> Result<Word, NoWord> {
+        if !row.makes_word() {
+            return Err(NoWord);
+        }
+        let WordRow {
+            len,
+            letters,
+            marks,
+        } = row;
+        Ok(Word {
             len,
             letters,
             marks,

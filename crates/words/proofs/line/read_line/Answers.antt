@@ -1,7 +1,8 @@
-use Rattle.std.proofs.Common.{◌≡◌, ℕ, ◌+◌, ◌<◌, Bool, true, false, cond, eqb, List, [], length, sym, refl, ap, ◌∙◌, subst, arith}
+use Rattle.std.proofs.Common.{◌≡◌, ℕ, ◌+◌, ◌<◌, Bool, true, false, cond, eqb, List, [], length, Some, None, sym, refl, ap, ◌∙◌, subst, arith}
 use Rattle.std.proofs.lemmas.List.{nil_from_length}
 use Rattle.std.proofs.lemmas.Bool.{cond-false, le-ltb, le-leb, eqb-true, eqb-false}
-use Rattle.words.specs.declared.line.Kind.TheVariants.{Letter, Mark, Other}
+use Rattle.words.specs.declared.line.Kind.{Kind}
+use Rattle.words.specs.declared.line.Kind.TheVariants.{Letter, Mark}
 use Rattle.words.specs.Line.{reading, Reading, blank}
 use Rattle.words.specs.Grammar.{Judged}
 use Rattle.words.proofs.Reading.{at_start, at_same, turn_letter, turn_mark, fault_is, refused_at, end_len, end_letters, end_rest, end_low, end_even, end_full, end_spells}
@@ -32,7 +33,7 @@ returns-then-len-ge-LONGEST c =
     let i = c.loop-i.i in
     let at = c.loop-i.invariant in
     let v = refused_at c.args.line bs i 7 c.loop-i-test.true at.clean
-    (fault_is bs i (Letter c.in-Letter.symbol) c.loop-i.after_letter (sym c.in-Letter.ensures) at.follows ∙ cond-false _ 0 8 (le-ltb _ 48 (omega arith))) in
+    (fault_is bs i (Some (Letter c.in-Letter.symbol)) c.loop-i.after_letter (sym c.in-Some.ensures ∙ ap (λ (k : Kind). Some k) c.in-Letter.is) at.follows ∙ cond-false _ 0 8 (le-ltb _ 48 (omega arith))) in
     record { value = v; meaning = both c.args.line bs _ v }
 
 -- a mark that does not come after a letter, or is last
@@ -48,7 +49,7 @@ returns-then-not-after_letter c =
     let bs = c.args.bytes.now in
     let i = c.loop-i.i in
     let at = c.loop-i.invariant in
-    let k = fault_is bs i (Mark c.in-Mark.hyphen) c.loop-i.after_letter (sym c.in-Mark.ensures) at.follows in
+    let k = fault_is bs i (Some (Mark c.in-Mark.hyphen)) c.loop-i.after_letter (sym c.in-Some.ensures ∙ ap (λ (k : Kind). Some k) c.in-Mark.is) at.follows in
     let v = refused_at c.args.line bs i 6 c.loop-i-test.true at.clean
     (k ∙ elim c.then-not-after_letter.branch [
       | then-not-after_letter-via-then-not-after_letter w ↦ bad_mark _ _ w.if-not-after_letter.true
@@ -59,12 +60,12 @@ returns-then-not-after_letter c =
 pub mark_bit-marks-requires : goal.mark_bit-marks-requires
 mark_bit-marks-requires c = omega (arith, c.loop-i.invariant.room)
 
-pub returns-in-Other : goal.returns-in-Other
-returns-in-Other c =
+pub returns-in_default : goal.returns-in_default
+returns-in_default c =
     let bs = c.args.bytes.now in
     let i = c.loop-i.i in
     let at = c.loop-i.invariant in
-    let v = refused_at c.args.line bs i 5 c.loop-i-test.true at.clean (fault_is bs i Other c.loop-i.after_letter (sym c.in-Other.ensures) at.follows) in
+    let v = refused_at c.args.line bs i 5 c.loop-i-test.true at.clean (fault_is bs i None c.loop-i.after_letter (sym c.in_default.ensures) at.follows) in
     record { value = v; meaning = both c.args.line bs _ v }
 
 pub loop-i-preserved : goal.loop-i-preserved
@@ -76,9 +77,9 @@ loop-i-preserved c =
     let m = c.loop-i.marks in
     let a = c.loop-i.after_letter in
     let at = c.loop-i.invariant in
-    elim c.match-classify.branch [
-      | in-Letter+else-len-ge-LONGEST w ↦ at_same bs (i + 1) _ _ _ _ _ _ _ _ w.letters-is w.len-is w.marks-is w.after_letter-is (turn_letter bs i L n m a at w.in-Letter.symbol (sym c.classify.ensures ∙ w.in-Letter.is) w.if-len-ge-LONGEST.false)
-      | in-Mark+else-not-after_letter+else-column-bytes w ↦ at_same bs (i + 1) _ _ _ _ _ _ _ _ w.letters-is w.len-is w.marks-is w.after_letter-is (turn_mark bs i L n m a at w.in-Mark.hyphen (sym c.classify.ensures ∙ w.in-Mark.is) w.if-not-after_letter.false w.if-column-bytes.false w.mark_bit-marks.result w.mark_bit-marks.ensures)
+    elim c.match-kind.branch [
+      | in-Letter+else-len-ge-LONGEST w ↦ at_same bs (i + 1) _ _ _ _ _ _ _ _ w.letters-is w.len-is w.marks-is w.after_letter-is (turn_letter bs i L n m a at w.in-Letter.symbol (sym c.in-Some.ensures ∙ ap (λ (k : Kind). Some k) w.in-Letter.is) w.if-len-ge-LONGEST.false)
+      | in-Mark+else-not-after_letter+else-column-bytes w ↦ at_same bs (i + 1) _ _ _ _ _ _ _ _ w.letters-is w.len-is w.marks-is w.after_letter-is (turn_mark bs i L n m a at w.in-Mark.hyphen (sym c.in-Some.ensures ∙ ap (λ (k : Kind). Some k) w.in-Mark.is) w.if-not-after_letter.false w.if-column-bytes.false w.mark_bit-marks.result w.mark_bit-marks.ensures)
     ]
 
 -- a line that is not empty
