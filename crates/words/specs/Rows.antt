@@ -1,6 +1,5 @@
 -- When a row of numbers makes a word.
-use Rattle.std.specs.Prelude.{◌≡◌, ℕ, ◌%◌, ◌^◌, ◌<◌, ◌≤◌, Bool, true, ◌&&◌, ◌↔◌, List, take, drop, Ok, Err, Result, IsOk, ◌==◌, nat_le, nat_lt, slice_index}
-use Rattle.std.specs.List.{list_all}
+use Rattle.std.specs.Prelude.{◌≡◌, ℕ, zero, suc, ◌%◌, ◌^◌, ◌<◌, ◌≤◌, Bool, true, false, ◌&&◌, ◌↔◌, List, take, Ok, Err, Result, IsOk, ◌==◌, nat_le, nat_lt, slice_index}
 use Rattle.words.specs.declared.word.Word.{Word}
 use Rattle.words.specs.declared.row.WordRow.{WordRow}
 use Rattle.words.specs.declared.row.NoWord.{NoWord}
@@ -34,15 +33,21 @@ Made row (Err none) = MakesWord row → ⊥
 abbrev pub is_symbol : ℕ → Bool
 is_symbol s = nat_le 1 s && nat_le s alphabet
 
--- whether n letters come first, and then only 0
-abbrev pub symbols_ok : ℕ → List ℕ → Bool
-symbols_ok n letters = list_all is_symbol (take n letters) && list_all (λ s. s == 0) (drop n letters)
+-- a symbol where the word has a letter, and one beyond its letters
+abbrev pub symbol_ok : Bool → ℕ → Bool
+symbol_ok true s = is_symbol s
+symbol_ok false s = s == 0
+
+-- the first i symbols of a word of n letters
+unfoldable pub symbols_ok : ℕ → List ℕ → ℕ → Bool
+symbols_ok n letters zero = true
+symbols_ok n letters (suc i) = symbols_ok n letters i && symbol_ok (nat_lt i n) (slice_index letters i)
 
 abbrev pub marks_ok : ℕ → ℕ → Bool
 marks_ok n marks = nat_lt marks (2 ^ n) && marks % 2 == 0
 
 abbrev pub row_ok : WordRow → Bool
-row_ok row = nat_le 1 row.len && (nat_le row.len longest && (symbols_ok row.len row.letters && marks_ok row.len row.marks))
+row_ok row = nat_le 1 row.len && (nat_le row.len longest && (symbols_ok row.len row.letters longest && marks_ok row.len row.marks))
 
 -- what trying a row answers: a word just where the row passes the test
 pub record Tried (row : WordRow) (result : Result Word NoWord) : Type 0 where

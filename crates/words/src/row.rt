@@ -42,7 +42,7 @@ fn are_unused(symbols: &[u8]) -> bool
 // Whether `len` letters come first, and then only 0.
 fn symbols_fit(letters: &[u8; LONGEST], len: usize) -> bool
     requires { len ≤ longest }
-    ensures value { result ≡ symbols_ok len letters.now }
+    ensures value { result ≡ symbols_ok len letters.now longest }
     ensures full { length letters.now ≡ longest }
 {
     let (word, rest) = letters.split_at(len);
