@@ -4,11 +4,11 @@ ghost use Rattle.text.specs.Refusals.{six_of};
 ghost use Rattle.lists.specs.Faults.{list_refused};
 ghost use Rattle.lists.specs.declared.fault.ListFault.TheVariants.{Line};
 
-use text::refusal::Refusal;
+use text::refusal::{Reason, Refusal};
 use words::line::LineFault;
 
 /// The one fault in which a word list may end.
-#[derive(Clone, Copy)]
+#[derive(Clone, Copy, PartialEq, Eq, Debug)]
 pub enum ListFault {
     /// A word line that is refused.
     Line(LineFault),
@@ -18,6 +18,7 @@ pub enum ListFault {
     BadRow { row: usize },
 }
 
+// By hand, since a derived conversion would not say which case it makes.
 impl From<LineFault> for ListFault {
     ghost from_gives = { λ f r. r ≡ Line f };
 
@@ -26,14 +27,14 @@ impl From<LineFault> for ListFault {
     }
 }
 
-impl ListFault {
-    pub fn refusal(self) -> Refusal
-        ensures { six_of result ≡ list_refused self }
-    {
-        match self {
-            ListFault::Line(fault) => fault.refusal(),
-            ListFault::TooMany { line } => Refusal::at_byte(9, line, 1),
-            ListFault::BadRow { row } => Refusal::at_byte(10, row, 0),
+impl From<ListFault> for Refusal {
+    ghost from_gives = { λ f r. six_of r ≡ list_refused f };
+
+    fn from(fault: ListFault) -> Refusal {
+        match fault {
+            ListFault::Line(fault) => Refusal::from(fault),
+            ListFault::TooMany { line } => Refusal::at_byte(Reason::TooManyWords, line, 1),
+            ListFault::BadRow { row } => Refusal::at_byte(Reason::BadRow, row, 0),
         }
     }
 }

@@ -14,15 +14,15 @@ use words::word::Word;
 fn word_at(rows: &[WordRow], read: usize) -> Result<Option<Word>, ListFault>
     ensures { Gives (rows_from read (drop read rows.now)) result (rows_from (read + 1) (drop (read + 1) rows.now)) }
 {
-    if read >= rows.len() {
+    let Some(row) = rows.get(read) else {
         return Ok(None);
-    }
+    };
     if read >= FULLEST {
         return Err(ListFault::TooMany { line: read + 1 });
     }
-    match rows[read].word() {
-        Some(word) => Ok(Some(word)),
-        None => Err(ListFault::BadRow { row: read + 1 }),
+    match Word::try_from(*row) {
+        Ok(word) => Ok(Some(word)),
+        Err(_) => Err(ListFault::BadRow { row: read + 1 }),
     }
 }
 

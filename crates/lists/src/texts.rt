@@ -15,10 +15,9 @@ use words::word::Word;
 
 // The next word of a text of which `read` words have been read.
 fn next_word<'a>(lines: &mut Lines<'a>, read: usize) -> Result<Option<Word>, ListFault>
-    ensures text { lines.new.text.now ≡ lines.old.text.now }
-    ensures gives { Gives (content_from (lines.old.number + 1) read (lines_of (unread lines.old))) result (content_from (lines.new.number + 1) (read + 1) (lines_of (unread lines.new))) }
+    ensures { Gives (content_from (lines.old.number + 1) read (lines_of (unread lines.old))) result (content_from (lines.new.number + 1) (read + 1) (lines_of (unread lines.new))) }
 {
-    while let Some(line) = lines.next_line() {
+    while let Some(line) = lines.next() {
         if !line.is_empty() && read >= FULLEST {
             return Err(ListFault::TooMany { line: lines.number });
         }
@@ -33,10 +32,11 @@ fn next_word<'a>(lines: &mut Lines<'a>, read: usize) -> Result<Option<Word>, Lis
 impl<'a> TextList<'a> {
     /// The word list of a text.
     pub fn new(text: &'a [u8]) -> TextList<'a>
-        ensures list { (result.lines.text.now ≡ text.now) × (result.read ≡ 0) }
+        ensures list { (result.text.now ≡ text.now) × (result.read ≡ 0) }
         ensures meaning { Listed 1 0 (lines_of text.now) (text_content text.now) }
     {
         TextList {
+            text,
             lines: Lines::new(text),
             read: 0,
         }
@@ -44,23 +44,28 @@ impl<'a> TextList<'a> {
 }
 
 impl<'a> WordList for TextList<'a> {
-    ghost words = { λ l. text_words l.lines.text.now };
+    ghost words = { λ l. text_words l.text.now };
 
-    ghost ending = { λ l. text_ending l.lines.text.now };
+    ghost ending = { λ l. text_ending l.text.now };
 
     ghost taken = { λ l. l.read };
 
-    ghost few = { λ l. (text_few l.lines.text.now, l.some) };
+    ghost few = { λ l. (text_few l.text.now, l.some) };
 
     fn rewind(&mut self) {
-        *self = TextList::new(self.lines.text);
+        *self = TextList::new(self.text);
     }
 
     fn next(&mut self) -> Result<Option<Word>, ListFault> {
-        let TextList { mut lines, read } = *self;
+        let TextList {
+            text,
+            mut lines,
+            read,
+        } = *self;
         let word = next_word(&mut lines, read)?;
         if word.is_some() {
             *self = TextList {
+                text,
                 lines,
                 read: read + 1,
             };

@@ -1,5 +1,5 @@
 -- When a row of numbers makes a word.
-use Rattle.std.specs.Prelude.{◌≡◌, ℕ, zero, suc, ◌%◌, ◌^◌, ◌<◌, ◌≤◌, Bool, true, false, ◌&&◌, ◌↔◌, List, take, Ok, Err, Result, IsOk, ◌==◌, nat_le, nat_lt, slice_index}
+use Rattle.std.specs.Prelude.{◌≡◌, ℕ, zero, suc, ◌%◌, ◌^◌, ◌<◌, ◌≤◌, Bool, true, false, ◌&&◌, List, take, Ok, Err, Result, is_ok, ◌==◌, nat_le, nat_lt, slice_index}
 use Rattle.words.specs.declared.word.Word.{Word}
 use Rattle.words.specs.declared.row.WordRow.{WordRow}
 use Rattle.words.specs.declared.row.NoWord.{NoWord}
@@ -51,5 +51,5 @@ row_ok row = nat_le 1 row.len && (nat_le row.len longest && (symbols_ok row.len 
 
 -- what trying a row answers: a word just where the row passes the test
 pub record Tried (row : WordRow) (result : Result Word NoWord) : Type 0 where
-  pub tested : IsOk result ↔ (row_ok row ≡ true)
+  pub tested : is_ok result ≡ row_ok row
   pub meaning : Made row result

@@ -7,12 +7,12 @@ use Rattle.lists.proofs.Steps.{word_taken}
 use Rattle.lists.proofs.texts.TextListWordList.next.Goals as goal
 
 pub overflow_add-self : goal.overflow_add-self
-overflow_add-self c = omega (arith, text_few c.args.self.now.lines.text.now, c.args.self.now.some)
+overflow_add-self c = omega (arith, text_few c.args.self.now.text.now, c.args.self.now.some)
 
 pub invariant_of-self : goal.invariant_of-self
 invariant_of-self c =
     let l = c.args.self.now in
-    let t = l.lines.text.now in
+    let t = l.text.now in
     let n = l.read in
     let all = content_from (l.lines.number + 1) n (lines_of (unread l.lines)) in
     let rest = content_from (c.next_word.new.lines.number + 1) (n + 1) (lines_of (unread c.next_word.new.lines)) in
