@@ -58,7 +58,10 @@ mod tests {
         let fault = count_list(&mut RowList::new(&rows), BOUNDS)
             .err()
             .ok_or("no row is refused")?;
-        assert_eq!(rt; Refusal::from(fault), Refusal::at_byte(Reason::BadRow, 2, 0));
+        assert_eq!(rt;
+            Refusal::from(fault),
+            Refusal::at_byte(Reason::BadRow, 2, 0)
+        );
         Ok(())
     }
 
@@ -67,7 +70,10 @@ mod tests {
         let fault = count_list(&mut RowList::new(&[NO_LETTERS]), BOUNDS)
             .err()
             .ok_or("no row is refused")?;
-        assert_eq!(rt; Refusal::from(fault), Refusal::at_byte(Reason::BadRow, 1, 0));
+        assert_eq!(rt;
+            Refusal::from(fault),
+            Refusal::at_byte(Reason::BadRow, 1, 0)
+        );
         Ok(())
     }
 }

@@ -6,8 +6,7 @@ use Rattle.lists.proofs.texts.next_word.Given as goal
 
 abbrev pub invariant-loop-line : goal.invariant-loop-line
 invariant-loop-line l =
-    (l.lines.text.now ≡ l.initial.lines.text.now)
-    × (content_from (l.initial.lines.number + 1) l.read (lines_of (unread l.initial.lines)) ≡ content_from (l.lines.number + 1) l.read (lines_of (unread l.lines)))
+    content_from (l.initial.lines.number + 1) l.read (lines_of (unread l.initial.lines)) ≡ content_from (l.lines.number + 1) l.read (lines_of (unread l.lines))
 
 abbrev pub decreases-loop-line : goal.decreases-loop-line
 decreases-loop-line l = length (lines_of (unread l.lines))

@@ -1,4 +1,4 @@
-use Rattle.std.proofs.Common.{◌≡◌, ℕ, ◌+◌, ◌≤◌, List, length, drop, sym, ◌∙◌, subst, arith}
+use Rattle.std.proofs.Common.{◌+◌, sym, ◌∙◌, arith}
 use Rattle.text.specs.Lines.{lines_of}
 use Rattle.text.specs.Cursor.{unread}
 use Rattle.lists.specs.Texts.{content_from, text_words, text_ending}
@@ -16,6 +16,5 @@ invariant_of-self c =
     let n = l.read in
     let all = content_from (l.lines.number + 1) n (lines_of (unread l.lines)) in
     let rest = content_from (c.next_word.new.lines.number + 1) (n + 1) (lines_of (unread c.next_word.new.lines)) in
-    let p = word_taken (text_words t) (text_ending t) n all rest c.in_ok-word.word (sym c.is_some.ensures ∙ c.if-is_some.true) c.in_ok-word.ensures.gives l.left l.ends in
-    let q = subst (λ (x : List ℕ). (n + 1 ≤ length (text_words x)) × (drop (n + 1) (text_words x) ≡ rest.0) × (text_ending x ≡ rest.1)) (sym c.next_word.ensures.text) p in
-    record { some = q.0; left = q.1; ends = q.2 }
+    let p = word_taken (text_words t) (text_ending t) n all rest c.in_ok-word.word (sym c.is_some.ensures ∙ c.if-is_some.true) c.in_ok-word.ensures l.left l.ends in
+    record { some = p.0; left = p.1; ends = p.2 }
