@@ -1,5 +1,5 @@
 -- From a sheet and the counts of its list to the outcome of a run.
-use Rattle.std.proofs.Common.{◌≡◌, ℕ, Bool, List, Ok, Err, sym, ap, ◌∙◌, ap₂}
+use Rattle.std.proofs.Common.{◌≡◌, ℕ, List, Ok, Err, sym, ap, ◌∙◌, ap₂}
 use Rattle.words.specs.Words.{Headword}
 use Rattle.lists.specs.declared.counting.ListCounts.{ListCounts}
 use Rattle.lists.specs.declared.fault.ListFault.{ListFault}
@@ -7,8 +7,7 @@ use Rattle.lists.specs.Faults.{list_refused}
 use Rattle.lists.specs.Listing.{Ending}
 use Rattle.lists.specs.Texts.{text_content}
 use Rattle.lists.specs.Calls.{Counted}
-use Rattle.sheet.specs.Sheets.{sheet, sheet_of}
-use Rattle.sheet.specs.Outcomes.{counts, refuses, counted_by, words_outcome, checked_by, checked}
+use Rattle.sheet.specs.Outcomes.{counts, refuses, counted_by, words_outcome}
 
 by_ok : (left right : ℕ) (words : List Headword) (ending : Ending) (c : ListCounts) → Counted left right words ending (Ok c) → counts c.words c.hyphens ≡ counted_by left right words ending
 by_ok left right words ending c h = ap₂ counts h.1 h.2 ∙ ap (counted_by left right words) (sym h.0)
@@ -23,7 +22,3 @@ module _ (left right : ℕ) (t words : List ℕ) (e : t ≡ words) where
 
   pub counted_err : (f : ListFault) → Counted left right (text_content t).0 (text_content t).1 (Err f) → refuses (list_refused f) ≡ words_outcome left right words
   counted_err f h = by_err left right (text_content t).0 (text_content t).1 f h ∙ ap (words_outcome left right) e
-
--- the words of a sheet are the rest of the input
-pub of_sheet : (longer : Bool) (input : List ℕ) (left right : ℕ) (words t : List ℕ) → sheet left right words ≡ sheet_of longer input → t ≡ words → words_outcome left right t ≡ checked longer input
-of_sheet longer input left right words t s e = ap (words_outcome left right) e ∙ ap checked_by s

@@ -1,6 +1,6 @@
 -- What a sheet comes to, by what was found in it.
-use Rattle.std.proofs.Common.{◌≡◌, ℕ, ◌+◌, ◌<◌, ◌≤◌, Bool, true, false, not, ◌&&◌, ◌||◌, ltb, leb, ◌⊎◌, List, [], ◌∷◌, length, get_or, is_some, Some, Ok, Err, Option, unwrap_or, sym, ap, ◌∙◌, ⊎_elim}
-use Rattle.std.proofs.lemmas.Bool.{cond-true, cond-false, or_left, or_right, or_from, lt-ltb, le-ltb, le-leb, leb-true, and_from, and_parts, cases_Bool, not_from_true, not_from_false}
+use Rattle.std.proofs.Common.{◌≡◌, ℕ, ◌+◌, ◌<◌, ◌≤◌, true, false, not, ◌&&◌, ltb, leb, List, [], ◌∷◌, length, get_or, is_some, Some, Option, unwrap_or, sym, ap, ◌∙◌, ⊎_elim}
+use Rattle.std.proofs.lemmas.Bool.{cond-true, cond-false, lt-ltb, le-ltb, le-leb, leb-true, and_from, and_parts, cases_Bool, not_from_true, not_from_false}
 use Rattle.text.specs.declared.cursor.Lines.{Lines}
 use Rattle.text.specs.Refusals.{bare, at_line}
 use Rattle.text.specs.Lines.{lines_of, behind_line}
@@ -10,15 +10,13 @@ use Rattle.words.specs.Words.{InRange, widest}
 use Rattle.sheet.specs.declared.fault.SheetFault.{SheetFault}
 use Rattle.sheet.specs.Faults.{sheet_refused}
 use Rattle.sheet.specs.Sheets.{largest, first_empty, has_figures, in_range, sheet, wrong, ranged_by, sheet_by, sheet_of}
-use Rattle.sheet.specs.Taken.{FiguresTaken, EmptyTaken}
+use Rattle.sheet.specs.Taken.{Passed}
 
 -- ---- the size of the input
 
-pub too_long : (longer : Bool) (input : List ℕ) → (longer ≡ true) ⊎ (largest < length input) → wrong (bare 16) ≡ sheet_of longer input
+pub too_long : (input : List ℕ) → largest < length input → wrong (bare 16) ≡ sheet_of (Some input)
 unfolding sheet_of
-too_long longer input h =
-    sym (cond-true (longer || ltb largest (length input)) _ _
-    (⊎_elim (or_left longer (ltb largest (length input))) (λ l. or_right longer (ltb largest (length input)) (lt-ltb largest (length input) l)) h))
+too_long input h = sym (cond-true (ltb largest (length input)) _ _ (lt-ltb largest (length input) h))
 
 -- ---- the bounds
 
@@ -59,32 +57,34 @@ module _ (line : List ℕ) (ls : List (List ℕ)) (words figures : List ℕ) (e 
       ∙ cond-false (not (first_empty ls)) _ _ (not_from_true _ f)
       ∙ ap (λ (o : Option (List ℕ)). ranged_by (get_or (unwrap_or o []) 0 0) (get_or (unwrap_or o []) 1 0) words) e
 
--- ---- the readers' answers: `new` stands before the whole input, `first` behind line 1, `second` behind line 2
+-- ---- the lines of an input that is no longer than a sheet can be: `new` stands before it, `first` behind line 1, `second`
+-- behind line 2
 
-module _ (longer : Bool) (input : List ℕ) (kept : longer ≡ false) (short : length input ≤ largest) (new : Lines) (all : unread new ≡ input) (none : new.number ≡ 0) where
-  short_sheet : sheet_by (lines_of input) (behind_line (behind_line input)) ≡ sheet_of longer input
+module _ (input : List ℕ) (short : length input ≤ largest) (new : Lines) (all : unread new ≡ input) (none : new.number ≡ 0) where
+  short_sheet : sheet_by (lines_of input) (behind_line (behind_line input)) ≡ sheet_of (Some input)
   unfolding sheet_of
-  short_sheet = sym (cond-false (longer || ltb largest (length input)) _ _ (or_from longer _ kept (le-ltb largest (length input) short)))
+  short_sheet = sym (cond-false (ltb largest (length input)) _ _ (le-ltb largest (length input) short))
 
-  pub line_1_bad : (first : Lines) (f : SheetFault) → FiguresTaken 2 new (Err f) first → wrong (sheet_refused f) ≡ sheet_of longer input
-  line_1_bad first f t =
-      ap wrong (t.0 ∙ ap (λ (n : ℕ). at_line 16 (n + 1)) none)
-      ∙ sym (first_bad (lines_of input) (behind_line (behind_line input)) (ap (λ (x : List ℕ). has_figures 2 (get_or (lines_of x) 0 [])) (sym all) ∙ t.1))
+  -- what a line was read as by a reader that says whether it is two figures
+  pub line_1_bad : (f : SheetFault) → sheet_refused f ≡ at_line 16 (new.number + 1) → has_figures 2 (get_or (lines_of (unread new)) 0 []) ≡ false → wrong (sheet_refused f) ≡ sheet_of (Some input)
+  line_1_bad f e t =
+      ap wrong (e ∙ ap (λ (n : ℕ). at_line 16 (n + 1)) none)
+      ∙ sym (first_bad (lines_of input) (behind_line (behind_line input)) (ap (λ (x : List ℕ). has_figures 2 (get_or (lines_of x) 0 [])) (sym all) ∙ t))
       ∙ short_sheet
 
-  module _ (first : Lines) (figures : List ℕ) (t : FiguresTaken 2 new (Ok figures) first) where
-    input_lines : lines_of input ≡ t.0 ∷ lines_of (unread first)
-    input_lines = ap lines_of (sym all) ∙ t.1.0
+  module _ (line : List ℕ) (first : Lines) (p : Passed new line first) (figures : List ℕ) (t : figures_of 2 (pieces line) ≡ Some figures) where
+    input_lines : lines_of input ≡ line ∷ lines_of (unread first)
+    input_lines = ap lines_of (sym all) ∙ p.0
 
-    pub line_2_bad : (second : Lines) (f : SheetFault) → EmptyTaken first (Err f) second → wrong (sheet_refused f) ≡ sheet_of longer input
-    line_2_bad second f u =
-        ap wrong (u.0 ∙ ap (λ (n : ℕ). at_line 16 (n + 1)) (t.1.2 ∙ ap (λ (n : ℕ). n + 1) none))
-        ∙ sym (ap (λ (ls : List (List ℕ)). sheet_by ls (behind_line (behind_line input))) input_lines ∙ second_bad t.0 (lines_of (unread first)) _ figures t.2 u.1)
+    pub line_2_bad : (f : SheetFault) → sheet_refused f ≡ at_line 16 (first.number + 1) → first_empty (lines_of (unread first)) ≡ false → wrong (sheet_refused f) ≡ sheet_of (Some input)
+    line_2_bad f e u =
+        ap wrong (e ∙ ap (λ (n : ℕ). at_line 16 (n + 1)) (p.2 ∙ ap (λ (n : ℕ). n + 1) none))
+        ∙ sym (ap (λ (ls : List (List ℕ)). sheet_by ls (behind_line (behind_line input))) input_lines ∙ second_bad line (lines_of (unread first)) _ figures t u)
         ∙ short_sheet
 
-    pub lines_good : (second : Lines) → EmptyTaken first (Ok tt) second → ranged_by (get_or figures 0 0) (get_or figures 1 0) (unread second) ≡ sheet_of longer input
+    pub lines_good : (second : Lines) → Passed first [] second → ranged_by (get_or figures 0 0) (get_or figures 1 0) (unread second) ≡ sheet_of (Some input)
     lines_good second u =
-        let w : behind_line (behind_line input) ≡ unread second = ap behind_line (ap behind_line (sym all) ∙ t.1.1) ∙ u.1 in
+        let w : behind_line (behind_line input) ≡ unread second = ap behind_line (ap behind_line (sym all) ∙ p.1) ∙ u.1 in
         ap (ranged_by (get_or figures 0 0) (get_or figures 1 0)) (sym w)
-        ∙ sym (ap (λ (ls : List (List ℕ)). sheet_by ls (behind_line (behind_line input))) input_lines ∙ both_good t.0 (lines_of (unread first)) _ figures t.2 (ap first_empty u.0))
+        ∙ sym (ap (λ (ls : List (List ℕ)). sheet_by ls (behind_line (behind_line input))) input_lines ∙ both_good line (lines_of (unread first)) _ figures t (ap first_empty u.0))
         ∙ short_sheet

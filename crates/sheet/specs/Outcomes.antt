@@ -1,5 +1,5 @@
 -- What the program answers, and the line that says it.
-use Rattle.std.specs.Prelude.{ℕ, Bool, List, [], ◌∷◌, length, codes}
+use Rattle.std.specs.Prelude.{ℕ, List, [], ◌∷◌, length, Option, codes}
 use Rattle.std.proofs.Common.{inl, inr}
 use Rattle.text.specs.Refusals.{Refused}
 use Rattle.text.specs.Written.{line_of}
@@ -27,8 +27,8 @@ checked_by (sheet left right words) = words_outcome left right words
 checked_by (wrong r) = refuses r
 
 -- a sheet is checked, and then the list that it holds
-abbrev pub checked : Bool → List ℕ → Outcome
-checked longer input = checked_by (sheet_of longer input)
+abbrev pub checked : Option (List ℕ) → Outcome
+checked input = checked_by (sheet_of input)
 
 -- words,hyphens
 abbrev pub counts_line : ℕ → ℕ → List ℕ

@@ -1,5 +1,5 @@
 -- The sheet: the bounds as `left,right`, an empty line, and word lines.
-use Rattle.std.specs.Prelude.{ℕ, Bool, true, false, cond, not, ◌&&◌, ◌||◌, List, [], ◌∷◌, length, drop, is_some, nat_le, nat_lt, slice_index, slice_index_or}
+use Rattle.std.specs.Prelude.{ℕ, Bool, true, false, cond, not, ◌&&◌, List, [], ◌∷◌, length, drop, is_some, Some, None, Option, nat_le, nat_lt, slice_index, slice_index_or}
 use Rattle.std.specs.Option.{unwrap_or}
 use Rattle.text.specs.Refusals.{Refused, bare, at_line}
 use Rattle.text.specs.Lines.{lines_of, behind_line}
@@ -46,6 +46,8 @@ sheet_by ls words =
     (cond (not (first_empty (drop 1 ls))) (wrong (at_line 16 2))
     (ranged_by (slice_index (figures_in 2 (slice_index_or ls 0 [])) 0) (slice_index (figures_in 2 (slice_index_or ls 0 [])) 1) words))
 
-unfoldable pub sheet_of : Bool → List ℕ → Sheeted
-sheet_of longer input =
-    cond (longer || nat_lt largest (length input)) (wrong (bare 16)) (sheet_by (lines_of input) (behind_line (behind_line input)))
+-- of the bytes that came, or of none, where more came than a sheet can have
+unfoldable pub sheet_of : Option (List ℕ) → Sheeted
+sheet_of None = wrong (bare 16)
+sheet_of (Some input) =
+    cond (nat_lt largest (length input)) (wrong (bare 16)) (sheet_by (lines_of input) (behind_line (behind_line input)))

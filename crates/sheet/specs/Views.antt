@@ -1,5 +1,6 @@
 -- What the values of the code mean.
-use Rattle.std.specs.Prelude.{ℕ, List, drop, Ok, Err, Result}
+use Rattle.std.specs.Prelude.{ℕ, List, Some, None, Option, Ok, Err, Result}
+use Rattle.std.specs.Borrow.{Bor}
 use Rattle.lists.specs.declared.counting.ListCounts.{ListCounts}
 use Rattle.sheet.specs.declared.fault.SheetFault.{SheetFault}
 use Rattle.sheet.specs.declared.fault.RunFault.{RunFault}
@@ -8,10 +9,15 @@ use Rattle.sheet.specs.Faults.{sheet_refused, run_refused}
 use Rattle.sheet.specs.Sheets.{Sheeted, sheet, wrong}
 use Rattle.sheet.specs.Outcomes.{Outcome, counts, refuses}
 
--- what the reader of a sheet answers of an input
-abbrev pub sheeted : List ℕ → Result Sheet SheetFault → Sheeted
-sheeted input (Ok s) = sheet s.bounds.left s.bounds.right (drop s.words_at input)
-sheeted input (Err f) = wrong (sheet_refused f)
+-- the bytes that came, where they were kept
+abbrev pub kept : Option (Bor (List ℕ)) → Option (List ℕ)
+kept None = None
+kept (Some input) = Some input.now
+
+-- what the reader of a sheet answers
+abbrev pub sheeted : Result Sheet SheetFault → Sheeted
+sheeted (Ok s) = sheet s.bounds.left s.bounds.right s.words.now
+sheeted (Err f) = wrong (sheet_refused f)
 
 -- what a run answers
 abbrev pub outcome : Result ListCounts RunFault → Outcome

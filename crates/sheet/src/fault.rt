@@ -5,9 +5,9 @@ ghost use Rattle.sheet.specs.Faults.{sheet_refused, run_refused};
 ghost use Rattle.sheet.specs.declared.fault.RunFault.TheVariants.{Sheet, List};
 
 use lists::fault::ListFault;
-use text::refusal::Refusal;
+use text::refusal::{Reason, Refusal};
 
-#[derive(Clone, Copy)]
+#[derive(Clone, Copy, PartialEq, Eq, Debug)]
 pub enum SheetFault {
     /// The input is longer than a sheet can be.
     TooLong,
@@ -18,12 +18,13 @@ pub enum SheetFault {
 }
 
 /// What ends a run: the sheet's fault, or that of its word list.
-#[derive(Clone, Copy)]
+#[derive(Clone, Copy, PartialEq, Eq, Debug)]
 pub enum RunFault {
     Sheet(SheetFault),
     List(ListFault),
 }
 
+// Both by hand, since a derived conversion would not say which case it makes.
 impl From<SheetFault> for RunFault {
     ghost from_gives = { λ f r. r ≡ Sheet f };
 
@@ -40,25 +41,25 @@ impl From<ListFault> for RunFault {
     }
 }
 
-impl SheetFault {
-    pub fn refusal(self) -> Refusal
-        ensures { six_of result ≡ sheet_refused self }
-    {
-        match self {
-            SheetFault::TooLong => Refusal::bare(16),
-            SheetFault::BadLine { line } => Refusal::at_byte(16, line, 0),
-            SheetFault::OutOfRange { line } => Refusal::at_byte(1, line, 0),
+impl From<SheetFault> for Refusal {
+    ghost from_gives = { λ f r. six_of r ≡ sheet_refused f };
+
+    fn from(fault: SheetFault) -> Refusal {
+        match fault {
+            SheetFault::TooLong => Refusal::bare(Reason::BadSheet),
+            SheetFault::BadLine { line } => Refusal::at_byte(Reason::BadSheet, line, 0),
+            SheetFault::OutOfRange { line } => Refusal::at_byte(Reason::OutOfRange, line, 0),
         }
     }
 }
 
-impl RunFault {
-    pub fn refusal(self) -> Refusal
-        ensures { six_of result ≡ run_refused self }
-    {
-        match self {
-            RunFault::Sheet(fault) => fault.refusal(),
-            RunFault::List(fault) => fault.refusal(),
+impl From<RunFault> for Refusal {
+    ghost from_gives = { λ f r. six_of r ≡ run_refused f };
+
+    fn from(fault: RunFault) -> Refusal {
+        match fault {
+            RunFault::Sheet(fault) => Refusal::from(fault),
+            RunFault::List(fault) => Refusal::from(fault),
         }
     }
 }

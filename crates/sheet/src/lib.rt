@@ -9,27 +9,27 @@ pub mod writing;
 mod tests {
     use crate::writing::run;
     use text::memory::Short;
-    use text::refusal::Refusal;
+    use text::refusal::{Reason, Refusal};
 
     #[test]
     fn an_answer_that_just_fits_is_written(rt: HostRuntime) {
         let mut memory = [b'.'; 3];
-        assert_eq!(rt; run(b"1,1\n\na-b", false, &mut memory).ok(), Some(3));
+        assert_eq!(rt; run(Some(b"1,1\n\na-b"), &mut memory).ok(), Some(3));
         assert_eq!(rt; memory, *b"1,1");
     }
 
     #[test]
     fn memory_one_byte_short_is_refused_and_left_alone(rt: HostRuntime) {
         let mut memory = [b'.'; 2];
-        assert_eq!(rt; run(b"1,1\n\na-b", false, &mut memory).ok(), None);
+        assert_eq!(rt; run(Some(b"1,1\n\na-b"), &mut memory).ok(), None);
         assert_eq!(rt; memory, *b"..");
-        assert_eq!(rt; Short.refusal(), Refusal::bare(15));
+        assert_eq!(rt; Refusal::from(Short), Refusal::bare(Reason::ShortMemory));
     }
 
     #[test]
-    fn an_input_that_was_cut_is_refused(rt: HostRuntime) {
+    fn an_input_that_is_longer_than_a_sheet_is_refused(rt: HostRuntime) {
         let mut memory = [b'.'; 24];
-        assert_eq!(rt; run(b"1,1\n\na-b", true, &mut memory).ok(), Some(20));
+        assert_eq!(rt; run(None, &mut memory).ok(), Some(20));
         assert_eq!(rt; memory, *b"refused,16,0,0,0,0,0....");
     }
 }

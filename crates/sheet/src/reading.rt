@@ -1,9 +1,9 @@
 //! Reading a sheet, and checking the word list in it.
-ghost use Rattle.std.specs.Prelude.{◌≡◌, ◌≤◌, length, IfOk};
+ghost use Rattle.std.specs.Prelude.{◌≡◌};
 ghost use Rattle.sheet.specs.Sheets.{sheet_of};
 ghost use Rattle.sheet.specs.Outcomes.{words_outcome, checked};
-ghost use Rattle.sheet.specs.Views.{sheeted, outcome};
-ghost use Rattle.sheet.specs.Taken.{FiguresTaken, EmptyTaken};
+ghost use Rattle.sheet.specs.Views.{kept, sheeted, outcome};
+ghost use Rattle.sheet.specs.Taken.{Taken};
 
 use crate::fault::{RunFault, SheetFault};
 use lists::counting::{ListCounts, count_list};
@@ -15,56 +15,47 @@ use words::word::Bounds;
 /// The most bytes of a sheet.
 pub const LARGEST: usize = 49_152;
 
-/// A sheet that was read: the bounds, and the byte at which the word lines begin.
+/// A sheet that was read: the bounds, and the text of the word lines.
 #[derive(Clone, Copy)]
-pub struct Sheet {
+pub struct Sheet<'a> {
     pub bounds: Bounds,
-    pub words_at: usize,
+    pub words: &'a [u8],
 }
 
-// The next line of a sheet, which must be `N` figures.
-fn take_figures<'a, const N: usize>(lines: &mut Lines<'a>) -> Result<[u32; N], SheetFault>
-    ensures text { lines.new.text.now ≡ lines.old.text.now }
-    ensures taken { FiguresTaken N lines.old result lines.new }
+// The next line of a sheet, as `read` takes it. The line is bad where `read` takes nothing, and where it is missing.
+fn take<'a, T, F: FnOnce(&[u8]) -> Option<T>>(
+    lines: &mut Lines<'a>,
+    read: F,
+) -> Result<T, SheetFault>
+    requires { F.IsAlwaysCallable read }
+    ensures { Taken F.FnOnce read lines.old result lines.new }
 {
-    let number = lines.number + 1;
-    if let Some(line) = lines.next_line() {
-        if let Some(figures) = read_figures(line) {
-            return Ok(figures);
-        }
-    }
-    Err(SheetFault::BadLine { line: number })
+    let bad = SheetFault::BadLine {
+        line: lines.number + 1,
+    };
+    let Some(line) = lines.next() else {
+        return Err(bad);
+    };
+    read(line).ok_or(bad)
 }
 
-// The next line of a sheet, which must be empty.
-fn take_empty<'a>(lines: &mut Lines<'a>) -> Result<(), SheetFault>
-    ensures text { lines.new.text.now ≡ lines.old.text.now }
-    ensures taken { EmptyTaken lines.old result lines.new }
+/// Reads a sheet from the bytes that came, or from nothing, where more came than a sheet can have.
+pub fn read_sheet(input: Option<&[u8]>) -> Result<Sheet<'_>, SheetFault>
+    ensures { sheeted result ≡ sheet_of (kept input.entry) }
 {
-    let number = lines.number + 1;
-    if let Some(line) = lines.next_line() {
-        if line.is_empty() {
-            return Ok(());
-        }
-    }
-    Err(SheetFault::BadLine { line: number })
-}
-
-/// Reads a sheet from the bytes that came; `longer` says that more came than were kept.
-pub fn read_sheet(input: &[u8], longer: bool) -> Result<Sheet, SheetFault>
-    ensures value { sheeted input.now result ≡ sheet_of longer input.now }
-    ensures inside { IfOk result (λ s. s.words_at ≤ length input.now) }
-{
-    if longer || input.len() > LARGEST {
+    let Some(input) = input else {
+        return Err(SheetFault::TooLong);
+    };
+    if input.len() > LARGEST {
         return Err(SheetFault::TooLong);
     }
     let mut lines = Lines::new(input);
-    let [left, right] = take_figures::<2>(&mut lines)?;
-    take_empty(&mut lines)?;
+    let [left, right] = take(&mut lines, read_figures::<2>)?;
+    take(&mut lines, |line| line.is_empty().then_some(()))?;
     match Bounds::new(left as usize, right as usize) {
         Ok(bounds) => Ok(Sheet {
             bounds,
-            words_at: lines.pos,
+            words: lines.rest,
         }),
         Err(_) => Err(SheetFault::OutOfRange { line: 1 }),
     }
@@ -79,10 +70,9 @@ pub fn check_words(words: &[u8], bounds: Bounds) -> Result<ListCounts, RunFault>
 }
 
 /// Checks a sheet, and then the word list in it.
-pub fn check(input: &[u8], longer: bool) -> Result<ListCounts, RunFault>
-    ensures { outcome result ≡ checked longer input.now }
+pub fn check(input: Option<&[u8]>) -> Result<ListCounts, RunFault>
+    ensures { outcome result ≡ checked (kept input.entry) }
 {
-    let sheet = read_sheet(input, longer)?;
-    let from = sheet.words_at;
-    check_words(&input[from..], sheet.bounds)
+    let sheet = read_sheet(input)?;
+    check_words(sheet.words, sheet.bounds)
 }

@@ -3,7 +3,7 @@ ghost use Rattle.std.specs.Prelude.{◌≡◌};
 ghost use Rattle.text.specs.Refusals.{six_of};
 ghost use Rattle.text.specs.Written.{Wrote};
 ghost use Rattle.sheet.specs.Outcomes.{checked, counts_line, refusal_line, outcome_line};
-ghost use Rattle.sheet.specs.Views.{outcome};
+ghost use Rattle.sheet.specs.Views.{kept, outcome};
 
 use crate::fault::RunFault;
 use crate::reading::check;
@@ -26,7 +26,7 @@ pub fn write_refusal(refusal: Refusal, memory: &mut [u8]) -> Result<usize, Short
     ensures { Wrote (refusal_line (six_of refusal)) memory.old result memory.new }
 {
     let six = [
-        refusal.number as u64,
+        u64::from(refusal.reason.number()),
         refusal.line as u64,
         refusal.column as u64,
         refusal.level as u64,
@@ -45,13 +45,14 @@ pub fn write_outcome(
 {
     match answer {
         Ok(counts) => write_counts(counts, memory),
-        Err(fault) => write_refusal(fault.refusal(), memory),
+        Err(fault) => write_refusal(Refusal::from(fault), memory),
     }
 }
 
-/// The whole run on the bytes of a sheet: writes the one line that the program answers.
-pub fn run(input: &[u8], longer: bool, memory: &mut [u8]) -> Result<usize, Short>
-    ensures { Wrote (outcome_line (checked longer input.now)) memory.old result memory.new }
+/// The whole run on the bytes of a sheet, or on nothing, where more came than a sheet can have: writes the one line that the
+/// program answers.
+pub fn run(input: Option<&[u8]>, memory: &mut [u8]) -> Result<usize, Short>
+    ensures { Wrote (outcome_line (checked (kept input.entry))) memory.old result memory.new }
 {
-    write_outcome(check(input, longer), memory)
+    write_outcome(check(input), memory)
 }

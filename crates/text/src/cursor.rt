@@ -6,5 +6,5 @@ ghost use Rattle.std.specs.Prelude.{◌+◌, ◌^◌, ◌<◌, length};
 pub struct Lines<'a> {
     pub rest: &'a [u8],
     pub number: usize,
-    ghost counted: { number + length rest.now < 2 ^ 64 },
+    ghost counted: { number + length rest.now < 2 ^ 63 },
 }

@@ -1,58 +1,87 @@
-use Rattle.std.proofs.Common.{◌≡◌, ℕ, ◌≤◌, List, length, drop, sym, ap, ◌∙◌, subst, ap₂, inl, inr}
+use Rattle.std.proofs.Common.{◌≡◌, ℕ, false, eqb, List, [], length, get_or, Some, None, Option, sym, ap, ◌∙◌, ap₂, inl, inr, rules, subst}
 use Rattle.std.proofs.lemmas.Result.{err_from_is_err_and}
+use Rattle.std.specs.Bool.{then_some}
+use Rattle.text.specs.Lines.{lines_of}
 use Rattle.text.specs.Cursor.{unread}
-use Rattle.sheet.specs.Sheets.{ranged_by}
+use Rattle.text.specs.Figures.{pieces, figures_of}
+use Rattle.sheet.specs.Sheets.{is_empty, first_empty, has_figures, ranged_by, sheet_of}
+use Rattle.sheet.specs.Taken.{Passed}
+use Rattle.sheet.specs.Views.{kept}
 use Rattle.sheet.proofs.Sheeting.{too_long, in_range_lem, out_of_range, line_1_bad, line_2_bad, lines_good}
+use Rattle.sheet.proofs.Taking.{not_figures, not_empty, empty_some, empty_none}
 use Rattle.sheet.proofs.reading.read_sheet.Goals as goal
-use Rattle.sheet.proofs.reading.read_sheet.Goals.{then-longer-via-then-longer, then-longer-via-else-longer+then-input-gt-LARGEST}
 
-pub returns-then-longer : goal.returns-then-longer
-returns-then-longer c =
-    record {
-      value = too_long c.args.longer c.args.input.now
-          (elim c.then-longer.branch [
-            | then-longer-via-then-longer w ↦ inl w.if-longer.true
-            | then-longer-via-else-longer+then-input-gt-LARGEST w ↦ inr w.if-input-gt-LARGEST.true
-          ]);
-      inside = tt;
-    }
+pub returns-in_default : goal.returns-in_default
+unfolding sheet_of
+returns-in_default c = ap (λ i. sheet_of (kept i)) (sym c.in_default.is)
+
+pub returns-then-input-gt-LARGEST : goal.returns-then-input-gt-LARGEST
+returns-then-input-gt-LARGEST c = too_long c.in-Some.input.now c.if-input-gt-LARGEST.true ∙ ap (λ i. sheet_of (kept i)) (sym c.in-Some.is)
 
 pub returns-in_err-left : goal.returns-in_err-left
 returns-in_err-left c =
-    let n = c.new-lines.ensures.all in
+    let new = c.new-lines.result in
+    let other : has_figures 2 (get_or (lines_of (unread new)) 0 []) ≡ false =
+    not_figures new c.take.new.lines 2 (elim c.in_err-left.ensures.1 [
+      | inl none ↦ inl none
+      | inr w ↦
+          let m = w.2.1 in
+          let e : None ≡ figures_of 2 (pieces w.2.0.now) = search rules in
+          inr (w.0, w.1, ap (λ l. figures_of 2 (pieces l)) (sym w.2.2) ∙ sym e)
+    ]) in
+    let v = line_1_bad c.in-Some.input.now c.if-input-gt-LARGEST.false new c.new-lines.ensures.all c.new-lines.ensures.none c.in_err-left.field-0.0 c.in_err-left.ensures.0 other in
     let q = err_from_is_err_and c.from_residual.result c.from_residual.ensures.1 in
-    let v = line_1_bad c.args.longer c.args.input.now c.if-longer.false c.if-input-gt-LARGEST.false c.new-lines.result n.0 n.1
-    c.take_figures.new.lines c.in_err-left.field-0.0 c.in_err-left.ensures.taken in
-    rw (q.1, q.2) (record { value = v; inside = tt })
+    rw (q.1, q.2) (v ∙ ap (λ i. sheet_of (kept i)) (sym c.in-Some.is))
 
-pub returns-in_err-take_empty : goal.returns-in_err-take_empty
-returns-in_err-take_empty c =
-    let n = c.new-lines.ensures.all in
-    let q = err_from_is_err_and c.from_residual-in_err-take_empty.result c.from_residual-in_err-take_empty.ensures.1 in
-    let v = line_2_bad c.args.longer c.args.input.now c.if-longer.false c.if-input-gt-LARGEST.false c.new-lines.result n.0 n.1
-    c.take_figures.new.lines _ c.in_ok-left.ensures.taken c.take_empty.new.lines c.in_err-take_empty.field-0.0 c.in_err-take_empty.ensures.taken in
-    rw (q.1, q.2) (record { value = v; inside = tt })
+-- the two figures of line 1
+pub returns-in_err-take : goal.returns-in_err-take
+returns-in_err-take c =
+    let line = c.in_ok-left.ensures.0 in
+    let m = c.in_ok-left.ensures.2.1 in
+    let e : Some c.in_ok-left.field-0 ≡ figures_of 2 (pieces c.in_ok-left.ensures.2.0.now) = search rules in
+    let first = c.take.new.lines in
+    let other : first_empty (lines_of (unread first)) ≡ false =
+    not_empty first c.take-2.new.lines (elim c.in_err-take.ensures.1 [
+      | inl none ↦ inl none
+      | inr w ↦
+          let n = w.2.1 in
+          let f : ◌≡◌ {A = Option (Unit {0})} None (then_some (eqb (length w.2.0.now) 0) (tt {0})) = search rules in
+          inr (w.0, w.1, ap is_empty (sym w.2.2) ∙ empty_none w.2.0.now f)
+    ]) in
+    let v = line_2_bad c.in-Some.input.now c.if-input-gt-LARGEST.false c.new-lines.result c.new-lines.ensures.all c.new-lines.ensures.none
+    line first c.in_ok-left.ensures.1 c.in_ok-left.field-0 (ap (λ l. figures_of 2 (pieces l)) (sym c.in_ok-left.ensures.2.2) ∙ sym e)
+    c.in_err-take.field-0.0 c.in_err-take.ensures.0 other in
+    let q = err_from_is_err_and c.from_residual-in_err-take.result c.from_residual-in_err-take.ensures.1 in
+    rw (q.1, q.2) (v ∙ ap (λ i. sheet_of (kept i)) (sym c.in-Some.is))
 
 pub returns-in-Ok : goal.returns-in-Ok
 returns-in-Ok c =
-    let n = c.new-lines.ensures.all in
+    let line = c.in_ok-left.ensures.0 in
+    let m = c.in_ok-left.ensures.2.1 in
+    let e : Some c.in_ok-left.field-0 ≡ figures_of 2 (pieces c.in_ok-left.ensures.2.0.now) = search rules in
+    let n = c.in_ok-take.ensures.2.1 in
+    let f : ◌≡◌ {A = Option (Unit {0})} (Some c.in_ok-take.field-0) (then_some (eqb (length c.in_ok-take.ensures.2.0.now) 0) (tt {0})) = search rules in
+    let second = c.take-2.new.lines in
+    let empty = sym c.in_ok-take.ensures.2.2 ∙ empty_some c.in_ok-take.ensures.2.0.now c.in_ok-take.field-0 f in
+    let passed = subst (λ (l : List ℕ). Passed c.take.new.lines l second) empty c.in_ok-take.ensures.1 in
     let b = c.in-Ok.ensures in
-    let second = c.take_empty.new.lines in
-    let t : second.text.now ≡ c.args.input.now = c.take_empty.ensures.text ∙ c.take_figures.ensures.text ∙ c.new-lines.ensures.text in
-    let v = lines_good c.args.longer c.args.input.now c.if-longer.false c.if-input-gt-LARGEST.false c.new-lines.result n.0 n.1
-    c.take_figures.new.lines _ c.in_ok-left.ensures.taken second c.in_ok-take_empty.ensures.taken in
-    record {
-      value = sym (in_range_lem c.in-Ok.bounds.left c.in-Ok.bounds.right (drop second.pos c.args.input.now) c.in-Ok.bounds.ranged)
-          ∙ ap (λ (x : List ℕ). ranged_by c.in-Ok.bounds.left c.in-Ok.bounds.right (drop second.pos x)) (sym t)
-          ∙ ap₂ (λ (l r : ℕ). ranged_by l r (unread second)) b.0 b.1
-          ∙ v;
-      inside = subst (λ (x : List ℕ). second.pos ≤ length x) t second.placed.0;
-    }
+    sym (in_range_lem c.in-Ok.bounds.left c.in-Ok.bounds.right (unread second) c.in-Ok.bounds.ranged)
+    ∙ ap₂ (λ (l r : ℕ). ranged_by l r (unread second)) b.0 b.1
+    ∙ lines_good c.in-Some.input.now c.if-input-gt-LARGEST.false c.new-lines.result c.new-lines.ensures.all c.new-lines.ensures.none
+    line c.take.new.lines c.in_ok-left.ensures.1 c.in_ok-left.field-0 (ap (λ l. figures_of 2 (pieces l)) (sym c.in_ok-left.ensures.2.2) ∙ sym e) second passed
+    ∙ ap (λ i. sheet_of (kept i)) (sym c.in-Some.is)
 
 pub returns-in-Err : goal.returns-in-Err
 returns-in-Err c =
-    let n = c.new-lines.ensures.all in
-    let second = c.take_empty.new.lines in
-    let v = lines_good c.args.longer c.args.input.now c.if-longer.false c.if-input-gt-LARGEST.false c.new-lines.result n.0 n.1
-    c.take_figures.new.lines _ c.in_ok-left.ensures.taken second c.in_ok-take_empty.ensures.taken in
-    record { value = sym (out_of_range _ _ _ c.in-Err.ensures) ∙ v; inside = tt }
+    let line = c.in_ok-left.ensures.0 in
+    let m = c.in_ok-left.ensures.2.1 in
+    let e : Some c.in_ok-left.field-0 ≡ figures_of 2 (pieces c.in_ok-left.ensures.2.0.now) = search rules in
+    let n = c.in_ok-take.ensures.2.1 in
+    let f : ◌≡◌ {A = Option (Unit {0})} (Some c.in_ok-take.field-0) (then_some (eqb (length c.in_ok-take.ensures.2.0.now) 0) (tt {0})) = search rules in
+    let second = c.take-2.new.lines in
+    let empty = sym c.in_ok-take.ensures.2.2 ∙ empty_some c.in_ok-take.ensures.2.0.now c.in_ok-take.field-0 f in
+    let passed = subst (λ (l : List ℕ). Passed c.take.new.lines l second) empty c.in_ok-take.ensures.1 in
+    sym (out_of_range _ _ _ c.in-Err.ensures)
+    ∙ lines_good c.in-Some.input.now c.if-input-gt-LARGEST.false c.new-lines.result c.new-lines.ensures.all c.new-lines.ensures.none
+    line c.take.new.lines c.in_ok-left.ensures.1 c.in_ok-left.field-0 (ap (λ l. figures_of 2 (pieces l)) (sym c.in_ok-left.ensures.2.2) ∙ sym e) second passed
+    ∙ ap (λ i. sheet_of (kept i)) (sym c.in-Some.is)
