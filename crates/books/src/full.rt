@@ -4,12 +4,12 @@ ghost use Rattle.text.specs.Refusals.{six_of};
 ghost use Rattle.books.specs.Faults.{full_refused};
 
 use crate::book::Full;
-use text::refusal::Refusal;
+use text::refusal::{Reason, Refusal};
 
-impl Full {
-    pub fn refusal(self) -> Refusal
-        ensures { six_of result ≡ full_refused }
-    {
-        Refusal::bare(13)
+impl From<Full> for Refusal {
+    ghost from_gives = { λ _ r. six_of r ≡ full_refused };
+
+    fn from(_full: Full) -> Refusal {
+        Refusal::bare(Reason::FullBook)
     }
 }

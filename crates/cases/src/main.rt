@@ -5,10 +5,10 @@
 ghost use Rattle.std.specs.Prelude.{ℕ, ◌<◌, ◌≤◌, length, Decides};
 ghost use Rattle.cases.specs.Parted.{CaseAt};
 
-use anyhow::anyhow;
 use sheet::writing::{LINE, run};
-use std::io::{Read, Write};
+use std::io::Read;
 use text::cursor::Lines;
+use text::printing::print_line;
 
 // Whether a case begins at `i`: with a `=` behind a line feed.
 fn begins_case(text: &[u8], i: usize) -> bool
@@ -25,27 +25,20 @@ fn next_case(text: &[u8], from: usize) -> usize
     ensures begins { result < length text.now → CaseAt text.now result }
     ensures first { (k : ℕ) → from ≤ k → k < result → CaseAt text.now k → ⊥ }
 {
-    for i in from..text.len() {
-        if begins_case(text, i) {
-            return i;
-        }
-    }
-    text.len()
+    (from..text.len())
+        .find(|i| begins_case(text, *i))
+        .unwrap_or(text.len())
 }
 
 // Writes the first line of a case and what the run on the rest answers.
 fn show(rt: &HostRuntime, case: &[u8]) -> anyhow::Result<()> {
     let mut lines = Lines::new(case);
-    let title = lines.next_line().unwrap_or(b"");
+    let title = lines.next().unwrap_or(b"");
     let mut line = [0; LINE];
-    let Ok(n) = run(&case[lines.pos..], false, &mut line) else {
-        return Err(anyhow!("the line is longer than its memory"));
-    };
+    let n = run(Some(lines.rest), &mut line)?;
     let mut stdout = rt.stdout();
-    stdout.write_all(title)?;
-    stdout.write_all(b"\n")?;
-    stdout.write_all(&line[0..n])?;
-    stdout.write_all(b"\n")?;
+    print_line(&mut stdout, title)?;
+    print_line(&mut stdout, &line[..n])?;
     Ok(())
 }
 

@@ -3,11 +3,11 @@
 
 ghost use Rattle.std.specs.Prelude.{◌≤◌, length, IfOk};
 
-use anyhow::anyhow;
 use sheet::reading::LARGEST;
 use sheet::writing::{LINE, run};
 use std::io;
-use std::io::{Read, Write};
+use std::io::Read;
+use text::printing::print_line;
 
 // Fills the buffer from its front, and answers how many bytes came.
 fn fill<R: Read>(from: &mut R, buffer: &mut [u8]) -> io::Result<usize>
@@ -25,18 +25,15 @@ fn fill<R: Read>(from: &mut R, buffer: &mut [u8]) -> io::Result<usize>
 }
 
 fn answer(rt: &HostRuntime) -> anyhow::Result<()> {
-    let mut input = [0; LARGEST];
+    let mut buffer = [0; LARGEST];
     let mut more = [0; 1];
     let mut line = [0; LINE];
     let mut stdin = rt.stdin();
-    let len = fill(&mut stdin, &mut input)?;
+    let len = fill(&mut stdin, &mut buffer)?;
     let longer = fill(&mut stdin, &mut more)? > 0;
-    let Ok(n) = run(&input[0..len], longer, &mut line) else {
-        return Err(anyhow!("the line is longer than its memory"));
-    };
-    let mut stdout = rt.stdout();
-    stdout.write_all(&line[0..n])?;
-    stdout.write_all(b"\n")?;
+    let input = if longer { None } else { Some(&buffer[..len]) };
+    let n = run(input, &mut line)?;
+    print_line(&mut rt.stdout(), &line[..n])?;
     Ok(())
 }
 

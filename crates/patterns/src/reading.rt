@@ -8,7 +8,7 @@ ghost use Rattle.patterns.specs.Promises.{Judged};
 ghost use Rattle.patterns.specs.Views.{answer};
 
 use crate::pattern::{LONGEST, PLACES, Pattern, Row, Spelling};
-use text::refusal::Refusal;
+use text::refusal::{Reason, Refusal};
 
 /// What a byte of a pattern text is: a symbol, the digit of a value above 0, or neither.
 #[derive(Clone, Copy)]
@@ -19,16 +19,16 @@ pub enum Piece {
 }
 
 /// A text that is no pattern text, and the column at which it is refused.
-#[derive(Clone, Copy)]
+#[derive(Clone, Copy, PartialEq, Eq, Debug)]
 pub struct BadPattern {
     pub column: usize,
 }
 
-impl BadPattern {
-    pub fn refusal(self) -> Refusal
-        ensures { six_of result ≡ pattern_refused self }
-    {
-        Refusal::at_byte(14, 1, self.column)
+impl From<BadPattern> for Refusal {
+    ghost from_gives = { λ f r. six_of r ≡ pattern_refused f };
+
+    fn from(fault: BadPattern) -> Refusal {
+        Refusal::at_byte(Reason::BadPattern, 1, fault.column)
     }
 }
 

@@ -6,6 +6,7 @@ mod cuts;
 pub mod figures;
 pub mod lines;
 pub mod memory;
+pub mod printing;
 pub mod refusal;
 
 #[cfg(test)]

@@ -48,8 +48,7 @@ fn answer(rt: &HostRuntime) -> anyhow::Result<()> {
 
 fn read_all(heap: Global, text: &[u8]) -> anyhow::Result<Vec<Pattern>> {
     let mut patterns = Vec::new(heap);
-    let mut lines = Lines::new(text);
-    while let Some(line) = lines.next_line() {
+    for line in Lines::new(text) {
         let Ok(pattern) = Pattern::read(line) else {
             return Err(anyhow!("no pattern text"));
         };
