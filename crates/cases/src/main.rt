@@ -44,12 +44,13 @@ fn show(rt: &HostRuntime, case: &[u8]) -> anyhow::Result<()> {
 
 // Shows the cases one after the other.
 fn show_all(rt: &HostRuntime, text: &[u8]) -> anyhow::Result<()> {
-    let mut start = 0;
-    while start < text.len() {
-        let next = next_case(text, start + 1);
-        let end = if next < text.len() { next - 1 } else { next };
-        show(rt, &text[start..end])?;
-        start = next;
+    let mut rest = text;
+    while !rest.is_empty() {
+        let (case, after) = rest.split_at(next_case(rest, 1));
+        // the line feed in front of the next case is not in this one
+        let feeds = if after.is_empty() { 0 } else { 1 };
+        show(rt, &case[..case.len() - feeds])?;
+        rest = after;
     }
     Ok(())
 }
