@@ -15,9 +15,8 @@ pub struct ListCounts {
 
 /// Reads a list from its first word to its end, and counts.
 pub fn count_list<L: WordList>(list: &mut L, bounds: Bounds) -> Result<ListCounts, ListFault>
-    ensures words { L.WordList.words list.new ≡ L.WordList.words list.old }
-    ensures ending { L.WordList.ending list.new ≡ L.WordList.ending list.old }
-    ensures value { Counted bounds.left bounds.right (L.WordList.words list.old) (L.WordList.ending list.old) result }
+    ensures same { L.content list.new ≡ L.content list.old }
+    ensures value { Counted bounds.left bounds.right (L.content list.old) result }
 {
     list.rewind();
     let mut words = 0;

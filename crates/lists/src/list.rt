@@ -1,7 +1,6 @@
 //! The word list as a meaning: whatever reads words meets this contract, and all that uses words stands on it alone.
-ghost use Rattle.std.specs.Prelude.{◌≡◌, ℕ, ◌≤◌, List, length};
-ghost use Rattle.words.specs.Words.{Headword};
-ghost use Rattle.lists.specs.Listing.{fullest, Ending};
+ghost use Rattle.std.specs.Prelude.{◌≡◌, ℕ, ◌≤◌, length};
+ghost use Rattle.lists.specs.Listing.{fullest, Content};
 ghost use Rattle.lists.specs.Calls.{Next};
 
 use crate::fault::ListFault;
@@ -12,29 +11,24 @@ pub const FULLEST: usize = 1_000_000;
 
 /// A list of words, read from the first to the last. Its words and its ending never change.
 pub trait WordList {
-    // the words, in their order
-    ghost words: { Self → List Headword };
-
-    // how the list ends: cleanly, or in one fault
-    ghost ending: { Self → Ending };
+    // the words, in their order, and how the list ends: cleanly, or in one fault
+    ghost content: { Self → Content };
 
     // how many words have been read
     ghost taken: { Self → ℕ };
 
     // a law: at most a million words, and no more read than there are
-    ghost few: { (l : Self) → (length (words l) ≤ fullest) × (taken l ≤ length (words l)) };
+    ghost few: { (l : Self) → (length (content l).0 ≤ fullest) × (taken l ≤ length (content l).0) };
 
     /// Begins again at the first word.
     fn rewind(&mut self)
-        ensures words { words self.new ≡ words self.old }
-        ensures ending { ending self.new ≡ ending self.old }
+        ensures same { content self.new ≡ content self.old }
         ensures none { taken self.new ≡ 0 };
 
     /// The first unread word; with none unread the end, or the fault, every time.
     fn next(&mut self) -> Result<Option<Word>, ListFault>
-        ensures words { words self.new ≡ words self.old }
-        ensures ending { ending self.new ≡ ending self.old }
-        ensures next { Next (words self.old) (ending self.old) (taken self.old) result (taken self.new) };
+        ensures same { content self.new ≡ content self.old }
+        ensures next { Next (content self.old) (taken self.old) result (taken self.new) };
 
     /// How many words have been read.
     fn words_read(&self) -> usize

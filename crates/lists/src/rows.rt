@@ -1,6 +1,6 @@
 //! The word list over rows.
 ghost use Rattle.std.specs.Prelude.{◌≡◌, ℕ, ◌+◌, ◌≤◌, length, drop};
-ghost use Rattle.lists.specs.Rows.{rows_from, row_content, row_words, row_ending, RowsListed};
+ghost use Rattle.lists.specs.Rows.{rows_from, row_content, RowsListed};
 ghost use Rattle.lists.specs.Few.{row_few};
 ghost use Rattle.lists.specs.Calls.{Gives};
 
@@ -37,9 +37,7 @@ impl<'a> RowList<'a> {
 }
 
 impl<'a> WordList for RowList<'a> {
-    ghost words = { λ l. row_words l.rows.now };
-
-    ghost ending = { λ l. row_ending l.rows.now };
+    ghost content = { λ l. row_content l.rows.now };
 
     ghost taken = { λ l. l.read };
 

@@ -2,7 +2,7 @@
 ghost use Rattle.std.specs.Prelude.{◌≡◌, ℕ, ◌+◌, ◌≤◌, length};
 ghost use Rattle.text.specs.Lines.{lines_of};
 ghost use Rattle.text.specs.Cursor.{unread};
-ghost use Rattle.lists.specs.Texts.{content_from, text_content, text_words, text_ending, Listed};
+ghost use Rattle.lists.specs.Texts.{content_from, text_content, Listed};
 ghost use Rattle.lists.specs.Few.{text_few};
 ghost use Rattle.lists.specs.Calls.{Gives};
 
@@ -44,9 +44,7 @@ impl<'a> TextList<'a> {
 }
 
 impl<'a> WordList for TextList<'a> {
-    ghost words = { λ l. text_words l.text.now };
-
-    ghost ending = { λ l. text_ending l.text.now };
+    ghost content = { λ l. text_content l.text.now };
 
     ghost taken = { λ l. l.read };
 

@@ -45,6 +45,8 @@ fn line_length(prefix: &[u8], figures: &[u64]) -> u128
     total
 }
 
+// The place is handed on beside the memory: of a struct with both, the proof loses that it holds the lent memory to the end.
+
 /// Writes the figures from `at` on, with a comma between neighbours, and answers where they end.
 fn put_figures(memory: &mut [u8], at: usize, figures: &[u64]) -> usize
     requires { at + length (commaed figures.now) ≤ length memory.old }
