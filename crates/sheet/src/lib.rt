@@ -27,7 +27,7 @@ mod tests {
     }
 
     #[test]
-    fn an_input_that_is_longer_than_a_sheet_is_refused(rt: HostRuntime) {
+    fn an_input_that_was_cut_is_refused(rt: HostRuntime) {
         let mut memory = [b'.'; 24];
         assert_eq!(rt; run(None, &mut memory).ok(), Some(20));
         assert_eq!(rt; memory, *b"refused,16,0,0,0,0,0....");

@@ -1,5 +1,6 @@
 -- What a refusal says.
-use Rattle.std.specs.Prelude.{ℕ, List, [], ◌∷◌}
+use Rattle.std.specs.Prelude.{◌≡◌, ℕ, ◌<◌, ◌⊎◌, List, [], ◌∷◌, Ok, Err, Result}
+use Rattle.text.specs.declared.refusal.NoReason.{NoReason}
 use Rattle.text.specs.declared.refusal.Reason.{Reason}
 use Rattle.text.specs.declared.refusal.Reason.TheVariants.{OutOfRange, LevelOpen, NoLevelLeft, NoLevelOpen, NoPassLeft, NoLetter, LooseMark, LongWord, TooManyWords, BadRow, FullTally, FullSettledBook, FullBook, BadPattern, ShortMemory, BadSheet}
 use Rattle.text.specs.declared.refusal.Refusal.{Refusal}
@@ -39,6 +40,11 @@ number_of FullBook = 13
 number_of BadPattern = 14
 number_of ShortMemory = 15
 number_of BadSheet = 16
+
+-- what a number answers: the reason that has it; no reason has 0, or a number above 16
+abbrev pub Numbered : ℕ → Result Reason NoReason → Type 0
+Numbered number (Ok reason) = number_of reason ≡ number
+Numbered number (Err none) = (number ≡ 0) ⊎ (16 < number)
 
 -- the six numbers of a refusal
 abbrev pub six_of : Refusal → Refused

@@ -1,6 +1,6 @@
 //! What every refusal says, whatever refused.
 ghost use Rattle.std.specs.Prelude.{◌≡◌};
-ghost use Rattle.text.specs.Refusals.{six_of, number_of, bare, at_byte};
+ghost use Rattle.text.specs.Refusals.{six_of, number_of, bare, at_byte, Numbered};
 
 /// Why something is refused. The number of a reason is the first of a refusal's numbers.
 #[derive(Clone, Copy, PartialEq, Eq, Debug)]
@@ -45,6 +45,39 @@ impl Reason {
         ensures { result ≡ number_of self }
     {
         self as u8
+    }
+}
+
+/// A number that no reason has.
+#[derive(Clone, Copy, PartialEq, Eq, Debug)]
+pub struct NoReason;
+
+impl TryFrom<u8> for Reason {
+    type Error = NoReason;
+
+    ghost try_from_gives = { Numbered };
+
+    /// The reason of a number.
+    fn try_from(number: u8) -> Result<Reason, NoReason> {
+        match number {
+            1 => Ok(Reason::OutOfRange),
+            2 => Ok(Reason::LevelOpen),
+            3 => Ok(Reason::NoLevelLeft),
+            4 => Ok(Reason::NoLevelOpen),
+            5 => Ok(Reason::NoPassLeft),
+            6 => Ok(Reason::NoLetter),
+            7 => Ok(Reason::LooseMark),
+            8 => Ok(Reason::LongWord),
+            9 => Ok(Reason::TooManyWords),
+            10 => Ok(Reason::BadRow),
+            11 => Ok(Reason::FullTally),
+            12 => Ok(Reason::FullSettledBook),
+            13 => Ok(Reason::FullBook),
+            14 => Ok(Reason::BadPattern),
+            15 => Ok(Reason::ShortMemory),
+            16 => Ok(Reason::BadSheet),
+            _ => Err(NoReason),
+        }
     }
 }
 

@@ -13,6 +13,7 @@ pub const WIDEST: usize = 8;
 
 /// A word and its hyphens. `letters` holds `len` symbols, 1 for a to 26 for z, and then only 0.
 /// Position i lies between letters i and i + 1; bit i of `marks` is set where position i has a hyphen.
+// An array with its length, since words are copied, and no vector of fixed room is.
 #[derive(Clone, Copy)]
 pub struct Word {
     pub len: usize,
