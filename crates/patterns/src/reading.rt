@@ -10,12 +10,11 @@ ghost use Rattle.patterns.specs.Views.{answer};
 use crate::pattern::{LONGEST, PLACES, Pattern, Row, Spelling};
 use text::refusal::Refusal;
 
-/// What a byte of a pattern text is: a symbol, the digit of a value above 0, or neither.
+/// What a byte of a pattern text is: a symbol, or the digit of a value above 0.
 #[derive(Clone, Copy)]
 pub enum Piece {
     Symbol(u8),
     Digit(u8),
-    Other,
 }
 
 /// A text that is no pattern text, and the column at which it is refused.
@@ -32,14 +31,14 @@ impl BadPattern {
     }
 }
 
-fn classify(b: u8) -> Piece
+fn classify(b: u8) -> Option<Piece>
     ensures { result ≡ piece_of b }
 {
     match b {
-        b'a'..=b'z' => Piece::Symbol(b - 96),
-        b'.' => Piece::Symbol(0),
-        b'1'..=b'9' => Piece::Digit(b - 48),
-        _ => Piece::Other,
+        b'a'..=b'z' => Some(Piece::Symbol(b - 96)),
+        b'.' => Some(Piece::Symbol(0)),
+        b'1'..=b'9' => Some(Piece::Digit(b - 48)),
+        _ => None,
     }
 }
 
@@ -73,11 +72,11 @@ impl Pattern {
         let mut len = 0;
         let mut after_digit = false;
         for (i, b) in text.iter().enumerate() {
-            let column = i + 1;
-            match classify(*b) {
+            let fault = BadPattern { column: i + 1 };
+            match classify(*b).ok_or(fault)? {
                 Piece::Symbol(s) => {
                     if is_shut(&symbols, len) {
-                        return Err(BadPattern { column });
+                        return Err(fault);
                     }
                     symbols[len] = s;
                     len += 1;
@@ -85,12 +84,11 @@ impl Pattern {
                 }
                 Piece::Digit(d) => {
                     if after_digit {
-                        return Err(BadPattern { column });
+                        return Err(fault);
                     }
                     values[len] = d;
                     after_digit = true;
                 }
-                Piece::Other => return Err(BadPattern { column }),
             }
         }
         if !any_above(&symbols) || !any_above(&values) {
