@@ -1,7 +1,10 @@
 -- Writing a text: one symbol and one value more, and the memory behind.
-use Rattle.std.proofs.Common.{◌≡◌, ℕ, zero, suc, ◌+◌, ◌<◌, ◌≤◌, List, [], ◌∷◌, ◌++◌, length, get_or, take, drop, set, sym, refl, ap, ◌∙◌, ap₂, append_assoc, append-nil, add-zero, add-one, arith}
+use Rattle.std.proofs.Common.{◌≡◌, ℕ, zero, suc, ◌+◌, ◌<◌, ◌≤◌, cond, ltb, List, [], ◌∷◌, ◌++◌, length, get_or, take, drop, set, sym, refl, ap, ◌∙◌, ap₂, append_assoc, append-nil, add-zero, add-one, arith}
 use native.Mathlib.Decide.{le_ind}
 use Rattle.std.proofs.lemmas.List.{set_at, length-append, drop_more, drop-set-lt, length_push, length-take-le}
+use Rattle.std.specs.List.{count_by, filter}
+use Rattle.std.proofs.lemmas.List.Sums.{count_by_more_no, count_by_more_yes, length-filter}
+use Rattle.std.proofs.lemmas.Bool.{le-ltb, lt-ltb}
 use Rattle.patterns.specs.Spellings.{longest}
 use Rattle.patterns.specs.Texts.{digit, byte_of, text_to, with_digit}
 
@@ -23,6 +26,38 @@ rises ss vs k = omega (arith, len_more ss vs k, ap (λ (x : ℕ). length (text_t
 
 pub len_mono : (ss vs : List ℕ) (k m : ℕ) → k ≤ m → length (text_to ss vs k) ≤ length (text_to ss vs m)
 len_mono ss vs k m h = le_ind (λ (j : ℕ). length (text_to ss vs k) ≤ length (text_to ss vs j)) (omega arith) (λ j _ q. omega (arith, q, rises ss vs j)) m h
+
+-- ---- the length: a byte for each symbol, and one for each value above 0
+
+value_counted : (vs : List ℕ) (k v : ℕ) → k < length vs → get_or vs k 0 ≡ v → count_by (λ x. ltb 0 x) (take (k + 1) vs) ≡ count_by (λ x. ltb 0 x) (take k vs) + length (digit v)
+value_counted vs k zero h e = count_by_more_no (λ x. ltb 0 x) vs k 0 h (le-ltb 0 (get_or vs k 0) (omega arith)) ∙ omega arith
+value_counted vs k (suc v) h e = count_by_more_yes (λ x. ltb 0 x) vs k 0 h (lt-ltb 0 (get_or vs k 0) (omega arith))
+
+values_counted : (ss vs : List ℕ) (k : ℕ) → k < length vs → length (text_to ss vs k) ≡ k + count_by (λ x. ltb 0 x) (take (k + 1) vs)
+unfolding text_to
+values_counted ss vs zero h = let a = value_counted vs 0 (get_or vs 0 0) h refl in omega arith
+values_counted ss vs (suc k) h =
+    let a = values_counted ss vs k (omega arith) in
+    let b = value_counted vs (suc k) (get_or vs (suc k) 0) h refl in
+    let c = length-append (text_to ss vs k) (byte_of (get_or ss k 0) ∷ digit (get_or vs (suc k) 0)) in
+    let d = ap (λ (j : ℕ). count_by (λ x. ltb 0 x) (take j vs)) (add-one k) in
+    omega arith
+
+above_front : (n : ℕ) (vs : List ℕ) → ((k : ℕ) → n ≤ k → get_or vs k 0 ≡ 0) → filter (λ x. ltb 0 x) vs ≡ filter (λ x. ltb 0 x) (take n vs)
+above_front zero [] z = refl
+above_front zero (zero ∷ vs) z = above_front zero vs (λ k _. z (suc k) (omega arith))
+above_front zero (suc v ∷ vs) z = absurd (omega (arith, z 0 (omega arith)))
+above_front (suc n) [] z = refl
+above_front (suc n) (v ∷ vs) z = ap (λ (r : List ℕ). cond (ltb 0 v) (v ∷ r) r) (above_front n vs (λ k h. z (suc k) (omega arith)))
+
+pub text_counted : (ss vs : List ℕ) (n : ℕ) → length ss ≡ n → n < length vs → ((k : ℕ) → n < k → get_or vs k 0 ≡ 0) → n + length (filter (λ x. ltb 0 x) vs) ≡ length (text_to ss vs (length ss))
+text_counted ss vs n e h z =
+    ap (λ (c : List ℕ). n + length c) (above_front (n + 1) vs (λ k l. z k (omega arith)))
+    ∙ ap (λ (c : ℕ). n + c) (length-filter (λ x. ltb 0 x) (take (n + 1) vs))
+    ∙ sym (values_counted ss vs n h)
+    ∙ ap (λ (k : ℕ). length (text_to ss vs k)) (sym e)
+
+-- ---- the bytes
 
 pub put_front : (T E out : List ℕ) (i b : ℕ) → i ≡ length T → i < length E → out ≡ T ++ drop i E → set out i b ≡ (T ++ b ∷ []) ++ drop (i + 1) E
 put_front T E out i b e h o =

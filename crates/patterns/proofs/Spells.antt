@@ -2,7 +2,8 @@
 use Rattle.std.proofs.Common.{◌≡◌, ℕ, zero, suc, ◌+◌, ◌-◌, ◌<◌, ◌≤◌, Bool, true, false, cond, ◌&&◌, ◌||◌, eqb, ltb, leb, ◌≢◌, List, [], ◌∷◌, ◌++◌, length, get_or, take, set, replicate, sym, refl, ap, ◌∙◌, subst, ap₂, subst₂, ⊎_elim, append-nil, add-one, arith, Some, None, Option}
 use native.Mathlib.Decide.{le_ind}
 use Rattle.std.proofs.lemmas.List.{get_or_append_left, get_or_past, length_push, length-set, get_or-set_same, get_or-set_other, take_at, nil_from_length}
-use Rattle.std.proofs.lemmas.Bool.{cond_both, cases_lt, cases_eq, leb-true, leb-false, eqb-true, eqb-false, and_parts, or_parts, and_cases, false≢true, true≢false, ltb-false}
+use Rattle.std.proofs.lemmas.Bool.{cond_both, cases_lt, cases_eq, leb-true, leb-false, eqb-true, eqb-false, and_parts, or_parts, and_cases, lt-ltb, false≢true, true≢false, ltb-false}
+use Rattle.std.specs.List.{list_any}
 use Rattle.text.specs.Refusals.{at_byte}
 use Rattle.text.proofs.Padding.{zeros, pad_set, pad_get}
 use Rattle.words.specs.Words.{alphabet}
@@ -20,6 +21,12 @@ any_zero (suc x) xs e = absurd (omega arith)
 pub any_here : (x : ℕ) (xs : List ℕ) → 0 < x → any_above_zero (x ∷ xs) ≡ true
 any_here zero xs h = absurd (omega arith)
 any_here (suc x) xs h = refl
+
+-- the same, as a chain over the numbers finds it
+pub any_tests : (xs : List ℕ) → list_any (λ n. ltb 0 n) xs ≡ any_above_zero xs
+any_tests [] = refl
+any_tests (zero ∷ xs) = any_tests xs
+any_tests (suc x ∷ xs) = ap (λ (b : Bool). b || list_any (λ n. ltb 0 n) xs) (lt-ltb 0 (suc x) (omega arith))
 
 any_zeros : (n : ℕ) → any_above_zero (replicate n 0) ≡ false
 any_zeros zero = refl

@@ -45,12 +45,7 @@ fn classify(b: u8) -> Option<Piece>
 pub(crate) fn any_above(numbers: &[u8]) -> bool
     ensures { result ≡ any_above_zero numbers.now }
 {
-    for n in numbers {
-        if *n > 0 {
-            return true;
-        }
-    }
-    false
+    numbers.iter().any(|n| *n > 0)
 }
 
 // Whether no symbol may follow: fifteen came, or an edge that is not first.

@@ -10,12 +10,6 @@ ghost use Rattle.patterns.specs.Views.{spelled};
 use crate::pattern::Pattern;
 use text::memory::Short;
 
-fn width(value: u8) -> usize
-    ensures { result ≡ length (digit value) }
-{
-    if value > 0 { 1 } else { 0 }
-}
-
 fn symbol_byte(symbol: u8) -> u8
     requires { symbol ≤ alphabet }
     ensures { result ≡ byte_of symbol }
@@ -42,11 +36,7 @@ impl Pattern {
     pub fn text_len(&self) -> usize
         ensures { result ≡ length (text_of (spelled self.now)) }
     {
-        let mut n = width(self.row.values[0]);
-        for k in 0..self.spelling.len {
-            n += 1 + width(self.row.values[k + 1]);
-        }
-        n
+        self.spelling.len + self.row.values.iter().filter(|value| **value > 0).count()
     }
 
     /// Writes the pattern's text into lent memory, and answers its length.
