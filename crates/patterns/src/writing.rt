@@ -50,9 +50,9 @@ impl Pattern {
             return Err(Short);
         }
         let mut at = put_digit(memory, 0, self.row.values[0]);
-        for k in 0..self.spelling.len {
-            memory[at] = symbol_byte(self.spelling.symbols[k]);
-            at = put_digit(memory, at + 1, self.row.values[k + 1]);
+        for (symbol, value) in self.spelling.symbols().iter().zip(&self.row.values[1..]) {
+            memory[at] = symbol_byte(*symbol);
+            at = put_digit(memory, at + 1, *value);
         }
         Ok(n)
     }
