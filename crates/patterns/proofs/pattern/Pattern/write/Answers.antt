@@ -33,35 +33,31 @@ loop-symbol-init c =
 
 pub symbol_byte-requires : goal.symbol_byte-requires
 symbol_byte-requires c =
+    let t = turn _ c.args.self.now.row.values _ c.into_iter-symbol-iterator.result c.loop-symbol.symbol-iterator c.next.new.self _ (c.in-Some.symbol, c.in-Some.value) c.loop-symbol.invariant.symbols c.loop-symbol.invariant.values c.loop-symbol.yielded_by c.in-Some.is c.next.ensures.steps in
     let p = c.args.self.now in
-    let t = turn (symbols_of p.spelling) p.row.values c.loop-symbol.yielded c.into_iter-symbol-iterator.result c.loop-symbol.symbol-iterator c.next.new.self c.next.result (c.in-Some.symbol, c.in-Some.value) c.loop-symbol.invariant.symbols c.loop-symbol.invariant.values c.loop-symbol.yielded_by c.in-Some.is c.next.ensures.steps in
     omega (arith, t.of_symbol, get_or-take p.spelling.len p.spelling.symbols (length c.loop-symbol.yielded) 0 (omega (arith, t.inside, symbols_length p.spelling.len p.spelling.symbols p.spelling.sized.1 p.spelling.full)), p.spelling.symbolic (length c.loop-symbol.yielded))
 
 pub bounds-memory-at : goal.bounds-memory-at
 bounds-memory-at c =
-    let p = c.args.self.now in
-    let t = turn (symbols_of p.spelling) p.row.values c.loop-symbol.yielded c.into_iter-symbol-iterator.result c.loop-symbol.symbol-iterator c.next.new.self c.next.result (c.in-Some.symbol, c.in-Some.value) c.loop-symbol.invariant.symbols c.loop-symbol.invariant.values c.loop-symbol.yielded_by c.in-Some.is c.next.ensures.steps in
-    omega (arith, room t c.loop-symbol.at c.text_len-n.result (length c.args.memory.now) c.loop-symbol.invariant.place c.text_len-n.ensures c.if-memory-n.false)
+    let t = turn _ c.args.self.now.row.values _ c.into_iter-symbol-iterator.result c.loop-symbol.symbol-iterator c.next.new.self _ (c.in-Some.symbol, c.in-Some.value) c.loop-symbol.invariant.symbols c.loop-symbol.invariant.values c.loop-symbol.yielded_by c.in-Some.is c.next.ensures.steps in
+    omega (arith, room t _ _ _ c.loop-symbol.invariant.place c.text_len-n.ensures c.if-memory-n.false)
 
 pub overflow_add-at : goal.overflow_add-at
 overflow_add-at c =
-    let p = c.args.self.now in
-    let t = turn (symbols_of p.spelling) p.row.values c.loop-symbol.yielded c.into_iter-symbol-iterator.result c.loop-symbol.symbol-iterator c.next.new.self c.next.result (c.in-Some.symbol, c.in-Some.value) c.loop-symbol.invariant.symbols c.loop-symbol.invariant.values c.loop-symbol.yielded_by c.in-Some.is c.next.ensures.steps in
-    omega (arith, room t c.loop-symbol.at c.text_len-n.result (length c.args.memory.now) c.loop-symbol.invariant.place c.text_len-n.ensures c.if-memory-n.false)
+    let t = turn _ c.args.self.now.row.values _ c.into_iter-symbol-iterator.result c.loop-symbol.symbol-iterator c.next.new.self _ (c.in-Some.symbol, c.in-Some.value) c.loop-symbol.invariant.symbols c.loop-symbol.invariant.values c.loop-symbol.yielded_by c.in-Some.is c.next.ensures.steps in
+    omega (arith, room t _ _ _ c.loop-symbol.invariant.place c.text_len-n.ensures c.if-memory-n.false)
 
 pub put_digit-at-requires-in-loop-symbol : goal.put_digit-at-requires-in-loop-symbol
 put_digit-at-requires-in-loop-symbol c =
-    let p = c.args.self.now in
-    let t = turn (symbols_of p.spelling) p.row.values c.loop-symbol.yielded c.into_iter-symbol-iterator.result c.loop-symbol.symbol-iterator c.next.new.self c.next.result (c.in-Some.symbol, c.in-Some.value) c.loop-symbol.invariant.symbols c.loop-symbol.invariant.values c.loop-symbol.yielded_by c.in-Some.is c.next.ensures.steps in
-    let d = p.row.digits (length c.loop-symbol.yielded + 1) in
-    (omega (arith, t.of_value), omega (arith, length-set c.loop-symbol.memory c.loop-symbol.at c.symbol_byte.result, room t c.loop-symbol.at c.text_len-n.result (length c.args.memory.now) c.loop-symbol.invariant.place c.text_len-n.ensures c.if-memory-n.false))
+    let t = turn _ c.args.self.now.row.values _ c.into_iter-symbol-iterator.result c.loop-symbol.symbol-iterator c.next.new.self _ (c.in-Some.symbol, c.in-Some.value) c.loop-symbol.invariant.symbols c.loop-symbol.invariant.values c.loop-symbol.yielded_by c.in-Some.is c.next.ensures.steps in
+    let d = c.args.self.now.row.digits (length c.loop-symbol.yielded + 1) in
+    (omega (arith, t.of_value), omega (arith, length-set c.loop-symbol.memory c.loop-symbol.at c.symbol_byte.result, room t _ _ _ c.loop-symbol.invariant.place c.text_len-n.ensures c.if-memory-n.false))
 
 pub loop-symbol-preserved : goal.loop-symbol-preserved
 loop-symbol-preserved c =
-    let p = c.args.self.now in
-    let t = turn (symbols_of p.spelling) p.row.values c.loop-symbol.yielded c.into_iter-symbol-iterator.result c.loop-symbol.symbol-iterator c.next.new.self c.next.result (c.in-Some.symbol, c.in-Some.value) c.loop-symbol.invariant.symbols c.loop-symbol.invariant.values c.loop-symbol.yielded_by c.in-Some.is c.next.ensures.steps in
-    let r : c.loop-symbol.at + (1 + length (digit c.in-Some.value.now)) ≤ length c.put_digit-at.new.memory = omega (arith, room t c.loop-symbol.at c.text_len-n.result (length c.args.memory.now) c.loop-symbol.invariant.place c.text_len-n.ensures c.if-memory-n.false) in
-    let w = write_step t c.put_digit-at.new.memory c.loop-symbol.memory c.loop-symbol.at c.symbol_byte.result c.put_digit-at-in-loop-symbol.result c.loop-symbol.invariant.place c.loop-symbol.invariant.left c.symbol_byte.ensures r c.put_digit-at-in-loop-symbol.ensures.place in
+    let t = turn _ c.args.self.now.row.values _ c.into_iter-symbol-iterator.result c.loop-symbol.symbol-iterator c.next.new.self _ (c.in-Some.symbol, c.in-Some.value) c.loop-symbol.invariant.symbols c.loop-symbol.invariant.values c.loop-symbol.yielded_by c.in-Some.is c.next.ensures.steps in
+    let r : c.loop-symbol.at + (1 + length (digit c.in-Some.value.now)) ≤ length c.put_digit-at.new.memory = omega (arith, room t _ _ _ c.loop-symbol.invariant.place c.text_len-n.ensures c.if-memory-n.false) in
+    let w = write_step t _ _ _ _ _ c.loop-symbol.invariant.place c.loop-symbol.invariant.left c.symbol_byte.ensures r c.put_digit-at-in-loop-symbol.ensures.place in
     record { symbols = c.loop-symbol.invariant.symbols; values = c.loop-symbol.invariant.values; place = rw length_push w.0; left = rw length_push (c.put_digit-at-in-loop-symbol.ensures.left ∙ w.1) }
 
 pub returns : goal.returns
@@ -71,7 +67,7 @@ returns c =
     let S = symbols_of p.spelling in
     let v = get_or p.row.values 0 0 in
     let l : length S < length p.row.values = omega (arith, symbols_length p.spelling.len p.spelling.symbols p.spelling.sized.1 p.spelling.full, p.spelling.sized, p.row.full) in
-    let e : length c.loop-symbol.yielded ≡ length S = turns S p.row.values c.loop-symbol.yielded c.into_iter-symbol-iterator.result c.loop-symbol.symbol-iterator c.next.new.self c.next.result c.loop-symbol.invariant.symbols c.loop-symbol.invariant.values c.loop-symbol.yielded_by c.in-None.is c.next.ensures.steps l in
+    let e : length c.loop-symbol.yielded ≡ length S = turns _ p.row.values _ c.into_iter-symbol-iterator.result c.loop-symbol.symbol-iterator c.next.new.self _ c.loop-symbol.invariant.symbols c.loop-symbol.invariant.values c.loop-symbol.yielded_by c.in-None.is c.next.ensures.steps l in
     let i : c.loop-symbol.at ≡ c.text_len-n.result = c.loop-symbol.invariant.place ∙ ap (λ (k : ℕ). length (text_to S p.row.values k)) e ∙ sym c.text_len-n.ensures in
     let g : length (digit v) ≤ c.text_len-n.result = omega (arith, c.text_len-n.ensures, len_mono S p.row.values 0 (length S) (omega arith)) in
     record {
