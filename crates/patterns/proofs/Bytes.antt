@@ -1,28 +1,16 @@
 -- Writing a text: one symbol and one value more, and the memory behind.
-use Rattle.std.proofs.Common.{◌≡◌, ℕ, zero, suc, ◌+◌, ◌<◌, ◌≤◌, cond, ltb, List, [], ◌∷◌, ◌++◌, length, get_or, take, drop, set, sym, refl, ap, ◌∙◌, ap₂, Some, None, Option, Iter, append_assoc, append-nil, add-zero, add-one, arith}
+use Rattle.std.proofs.Common.{◌≡◌, ℕ, zero, suc, ◌+◌, ◌<◌, ◌≤◌, cond, ltb, List, [], ◌∷◌, ◌++◌, length, get_or, take, drop, set, sym, refl, ap, ◌∙◌, ap₂, append_assoc, append-nil, add-zero, add-one, arith}
 use native.Mathlib.Decide.{le_ind}
-use Rattle.std.proofs.lemmas.List.{set_at, length-append, drop_more, get_or-drop, length-drop, drop-set-lt, length_push, length-take-le}
+use Rattle.std.proofs.lemmas.List.{set_at, length-append, drop_more, drop-set-lt, length-take-le}
 use Rattle.std.specs.List.{count_by, filter}
 use Rattle.std.proofs.lemmas.List.Sums.{count_by_more_no, count_by_more_yes, length-filter}
 use Rattle.std.proofs.lemmas.Bool.{le-ltb, lt-ltb}
-use denote.Ref.{Bor}
-use Rattle.std.proofs.iter.Yields.{fronts}
-use Rattle.std.proofs.lemmas.Iterator.{zips}
-use Rattle.std.proofs.lemmas.Slice.Zip.{zip_turn, zip_end}
-use Rattle.std.specs.declared.iter.Zip.{Zip}
-use Rattle.std.specs.Iterator.{Yields}
-use Rattle.std.specs.Iterator.Adapters.{zip_first, zip_second}
-use Rattle.std.specs.Slice.Iter.{iter_rest}
 use Rattle.patterns.specs.Spellings.{longest}
 use Rattle.patterns.specs.Texts.{digit, byte_of, text_to, with_digit}
 
 pub text_more : (ss vs : List ℕ) (k : ℕ) → text_to ss vs (k + 1) ≡ text_to ss vs k ++ byte_of (get_or ss k 0) ∷ digit (get_or vs (k + 1) 0)
 unfolding text_to
 text_more ss vs k = ap (text_to ss vs) (add-one k) ∙ ap (λ (x : ℕ). text_to ss vs k ++ byte_of (get_or ss k 0) ∷ digit (get_or vs x 0)) (sym (add-one k))
-
-pub digit_le : (v : ℕ) → length (digit v) ≤ 1
-digit_le zero = omega arith
-digit_le (suc v) = omega arith
 
 pub len_more : (ss vs : List ℕ) (k : ℕ) → length (text_to ss vs (k + 1)) ≡ length (text_to ss vs k) + (1 + length (digit (get_or vs (k + 1) 0)))
 len_more ss vs k =
@@ -51,16 +39,16 @@ values_counted ss vs (suc k) h =
     let d = ap (λ (j : ℕ). count_by (λ x. ltb 0 x) (take j vs)) (add-one k) in
     omega arith
 
-above_front : (n : ℕ) (vs : List ℕ) → ((k : ℕ) → n ≤ k → get_or vs k 0 ≡ 0) → filter (λ x. ltb 0 x) vs ≡ filter (λ x. ltb 0 x) (take n vs)
-above_front zero [] z = refl
-above_front zero (zero ∷ vs) z = above_front zero vs (λ k _. z (suc k) (omega arith))
-above_front zero (suc v ∷ vs) z = absurd (omega (arith, z 0 (omega arith)))
-above_front (suc n) [] z = refl
-above_front (suc n) (v ∷ vs) z = ap (λ (r : List ℕ). cond (ltb 0 v) (v ∷ r) r) (above_front n vs (λ k h. z (suc k) (omega arith)))
+counted_front : (n : ℕ) (vs : List ℕ) → ((k : ℕ) → n ≤ k → get_or vs k 0 ≡ 0) → filter (λ x. ltb 0 x) vs ≡ filter (λ x. ltb 0 x) (take n vs)
+counted_front zero [] z = refl
+counted_front zero (zero ∷ vs) z = counted_front zero vs (λ k _. z (suc k) (omega arith))
+counted_front zero (suc v ∷ vs) z = absurd (omega (arith, z 0 (omega arith)))
+counted_front (suc n) [] z = refl
+counted_front (suc n) (v ∷ vs) z = ap (λ (r : List ℕ). cond (ltb 0 v) (v ∷ r) r) (counted_front n vs (λ k h. z (suc k) (omega arith)))
 
 pub text_counted : (ss vs : List ℕ) (n : ℕ) → length ss ≡ n → n < length vs → ((k : ℕ) → n < k → get_or vs k 0 ≡ 0) → n + length (filter (λ x. ltb 0 x) vs) ≡ length (text_to ss vs (length ss))
 text_counted ss vs n e h z =
-    ap (λ (c : List ℕ). n + length c) (above_front (n + 1) vs (λ k l. z k (omega arith)))
+    ap (λ (c : List ℕ). n + length c) (counted_front (n + 1) vs (λ k l. z k (omega arith)))
     ∙ ap (λ (c : ℕ). n + c) (length-filter (λ x. ltb 0 x) (take (n + 1) vs))
     ∙ sym (values_counted ss vs n h)
     ∙ ap (λ (k : ℕ). length (text_to ss vs k)) (sym e)
@@ -89,36 +77,3 @@ digit_behind out (suc v) n h = drop-set-lt n out 0 (48 + suc v) (omega arith)
 
 pub symbols_length : (n : ℕ) (S : List ℕ) → n ≤ longest → length S ≡ longest → length (take n S) ≡ n
 symbols_length n S h e = length-take-le n S (omega arith)
-
--- ---- the loop over the symbols and the values behind them
-
-pub record Turn (S V : List ℕ) (k symbol value : ℕ) : Type 0 where
-  pub inside : k < length S
-  pub of_symbol : symbol ≡ get_or S k 0
-  pub of_value : value ≡ get_or V (k + 1) 0
-
-pub turn : (S V : List ℕ) (xs : List (Bor ℕ × Bor ℕ)) (s t u : Zip (Iter ℕ) (Iter ℕ)) (r : Option (Bor ℕ × Bor ℕ)) (p : Bor ℕ × Bor ℕ) → iter_rest (zip_first s) ≡ S → iter_rest (zip_second s) ≡ drop 1 V
-    → Yields (zips fronts fronts) s xs t → r ≡ Some p → zips fronts fronts t r u → Turn S V (length xs) p.0.now p.1.now
-turn S V xs s t u r p a b y e z =
-    let h = zip_turn S (drop 1 V) xs s t u r a b y p e z in
-    let j : 1 + length xs ≡ length xs + 1 = omega arith in
-    record { inside = h.0; of_symbol = h.2 0; of_value = h.3 0 ∙ get_or-drop 1 V (length xs) 0 ∙ ap (λ (k : ℕ). get_or V k 0) j }
-
-pub turns : (S V : List ℕ) (xs : List (Bor ℕ × Bor ℕ)) (s t u : Zip (Iter ℕ) (Iter ℕ)) (r : Option (Bor ℕ × Bor ℕ)) → iter_rest (zip_first s) ≡ S → iter_rest (zip_second s) ≡ drop 1 V
-    → Yields (zips fronts fronts) s xs t → r ≡ None → zips fronts fronts t r u → length S < length V → length xs ≡ length S
-turns S V xs s t u r a b y e z h = omega (arith, zip_end S (drop 1 V) xs s t u r a b y e z, length-drop 1 V)
-
-module _ {S V : List ℕ} {k symbol value : ℕ} (t : Turn S V k symbol value) where
-  pub room : (i n o : ℕ) → i ≡ length (text_to S V k) → n ≡ length (text_to S V (length S)) → n ≤ o → i + (1 + length (digit value)) ≤ o
-  room i n o e f g = rw (t.of_value) (omega (arith, len_more S V k, len_mono S V (k + 1) (length S) (omega (arith, t.inside))))
-
-  pub write_step : (E out : List ℕ) (i b i' : ℕ) → i ≡ length (text_to S V k) → out ≡ text_to S V k ++ drop i E → b ≡ byte_of symbol → i + (1 + length (digit value)) ≤ length E → i' ≡ i + 1 + length (digit value)
-      → (i' ≡ length (text_to S V (k + 1))) × (with_digit (set out i b) (i + 1) value ≡ text_to S V (k + 1) ++ drop i' E)
-  write_step E out i b i' e o f h g =
-      let T = text_to S V k in
-      let q : i < length E = omega arith in
-      let r : i + 1 + length (digit value) ≤ length E = omega arith in (
-        g ∙ ap (λ (v : ℕ). i + 1 + length (digit v)) t.of_value ∙ omega (arith, e, len_more S V k),
-        put_digit_front (T ++ b ∷ []) E (set out i b) (i + 1) value (ap (λ (x : ℕ). x + 1) e ∙ sym (length_push T b)) r (put_front T E out i b e q o)
-            ∙ ap₂ (λ (x : List ℕ) (j : ℕ). x ++ drop j E) (append_assoc T (b ∷ []) (digit value) ∙ ap₂ (λ (x v : ℕ). T ++ x ∷ digit v) (f ∙ ap byte_of t.of_symbol) t.of_value ∙ sym (text_more S V k)) (sym g),
-      )

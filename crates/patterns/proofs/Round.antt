@@ -11,8 +11,7 @@ use Rattle.patterns.specs.declared.reading.Piece.{Piece}
 use Rattle.patterns.specs.declared.reading.Piece.TheVariants.{Symbol, Digit}
 use Rattle.patterns.specs.Texts.{digit, byte_of, text_to, text_of, piece_of, piece_at, symbol_in, with_value, symbols_to, values_to, after_digit, shut, offends, offends_at, or_else, first_to, spells, reading_by, lacking, reading}
 use Rattle.patterns.specs.declared.pattern.Pattern.{Pattern}
-use Rattle.patterns.proofs.Bytes.{digit_le}
-use Rattle.patterns.proofs.Spells.{Front, front_none, front_more, Sound, sound, bytes, Bytes, inverse, no_offence}
+use Rattle.patterns.proofs.Spells.{above_front, Front, front_none, front_more, Sound, sound, bytes, Bytes, inverse, no_offence}
 
 -- ---- a text depends on the symbols before its place, and on the values up to it
 
@@ -192,19 +191,6 @@ written_then_read w v =
 
 -- ---- a pattern of the program keeps the rules
 
-any_take : (n : ℕ) (S : List ℕ) → ((k : ℕ) → n ≤ k → get_or S k 0 ≡ 0) → any_above_zero (take n S) ≡ any_above_zero S
-any_take zero [] f = refl
-any_take (suc n) [] f = refl
-any_take zero (zero ∷ S) f = any_take zero S (λ k h. f (suc k) (omega arith))
-any_take zero (suc x ∷ S) f = absurd (omega (arith, f 0 (omega arith)))
-any_take (suc n) (zero ∷ S) f = any_take n S (λ k h. f (suc k) (omega arith))
-any_take (suc n) (suc x ∷ S) f = refl
-
-pub text_short : (ss vs : List ℕ) (k : ℕ) → length (text_to ss vs k) ≤ 1 + k + k
-unfolding text_to
-text_short ss vs zero = digit_le (get_or vs 0 0)
-text_short ss vs (suc k) = omega (arith, text_short ss vs k, length-append (text_to ss vs k) (byte_of (get_or ss k 0) ∷ digit (get_or vs (suc k) 0)), digit_le (get_or vs (suc k) 0))
-
 pub valid_of : (p : Pattern) → length p.spelling.symbols ≡ longest → length p.row.values ≡ places → Valid (spelled p)
 valid_of p e f =
     let n = p.spelling.len in
@@ -216,7 +202,7 @@ valid_of p e f =
       few = omega (arith, p.spelling.sized.1);
       symbolic = λ k. rw (get k) (p.spelling.symbolic k);
       edged = λ k h q. rw (get k) (p.spelling.edged k h (omega arith));
-      lettered = any_take n S p.spelling.unused ∙ p.spelling.lettered;
+      lettered = sym (above_front n S p.spelling.unused) ∙ p.spelling.lettered;
       wide = f;
       digits = p.row.digits;
       within = λ k h. p.within k (omega arith);

@@ -37,6 +37,15 @@ any_pad [] n = any_zeros n
 any_pad (zero ∷ xs) n = any_pad xs n
 any_pad (suc x ∷ xs) n = refl
 
+-- zeros behind do not matter
+pub above_front : (m : ℕ) (xs : List ℕ) → ((k : ℕ) → m ≤ k → get_or xs k 0 ≡ 0) → any_above_zero xs ≡ any_above_zero (take m xs)
+above_front zero [] z = refl
+above_front zero (zero ∷ xs) z = above_front zero xs (λ k _. z (suc k) (omega arith))
+above_front zero (suc x ∷ xs) z = absurd (omega (arith, z 0 (omega arith)))
+above_front (suc m) [] z = refl
+above_front (suc m) (zero ∷ xs) z = above_front m xs (λ k h. z (suc k) (omega arith))
+above_front (suc m) (suc x ∷ xs) z = refl
+
 -- ---- one byte more
 
 pub record Front (t : List ℕ) (i : ℕ) (ss vs : List ℕ) (a : Bool) : Type 0 where

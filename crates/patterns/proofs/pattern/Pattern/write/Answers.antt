@@ -5,7 +5,8 @@ use Rattle.std.specs.Slice.Iter.{iter_rest}
 use Rattle.std.proofs.lemmas.List.{length-set, length-drop, length_push, get_or-take, take_all}
 use Rattle.patterns.specs.Texts.{text_to, text_of, digit}
 use Rattle.patterns.specs.Views.{symbols_of, spelled}
-use Rattle.patterns.proofs.Bytes.{turn, turns, len_mono, room, write_step, digit_first, digit_behind, symbols_length}
+use Rattle.patterns.proofs.Bytes.{len_mono, digit_first, digit_behind, symbols_length}
+use Rattle.patterns.proofs.Turns.{turn, turns, room, write_step}
 use Rattle.patterns.proofs.Round.{written_then_read, valid_of}
 use Rattle.patterns.proofs.Judging.{round_trips}
 use Rattle.patterns.proofs.pattern.Pattern.write.Goals as goal
