@@ -33,10 +33,6 @@ padded_edge w (suc p) (inl h) = absurd (omega arith)
 padded_edge w (suc p) (inr h) =
     get_or-append_right (take w.len w.letters) (0 ∷ []) w.len p 0 (letters_length w) (omega arith) ∙ lone (p - w.len)
 
-pub padded_at : (w : Word) (p : ℕ) → 1 ≤ p → p ≤ w.len → get_or w.letters (p - 1) 0 ≡ get_or (padded (headword w)) p 0
-padded_at w zero l h = absurd (omega arith)
-padded_at w (suc p) l h = let e : suc p - 1 ≡ p = omega arith in ap (λ (q : ℕ). get_or w.letters q 0) e ∙ sym (padded_letter w p (omega arith))
-
 -- every symbol of a padded word is one, and those between the edges are letters
 pub padded_symbol : (w : Word) (p : ℕ) → get_or (padded (headword w)) p 0 ≤ alphabet
 padded_symbol w zero = omega arith

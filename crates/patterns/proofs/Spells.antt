@@ -208,13 +208,17 @@ module _ {t : List ℕ} {i : ℕ} {S V : List ℕ} {n : ℕ} {a : Bool} (at : At
   pub at_symbol : (k : ℕ) → get_or S k 0 ≡ get_or (symbols_to t i) k 0
   at_symbol k = ap (λ (x : List ℕ). get_or x k 0) at.padded ∙ pad_get (symbols_to t i) (longest - n) k
 
-  pub shut_is : (s : ℕ) → shut S n ≡ offends (Some (Symbol s)) a (symbols_to t i)
-  shut_is s = ap (λ (x : ℕ). leb longest n || (ltb 1 n && eqb x 0)) (at_symbol (n - 1)) ∙ ap (shut (symbols_to t i)) at.count
+  at_taken : take n S ≡ symbols_to t i
+  at_taken = ap (take n) at.padded ∙ take_at (symbols_to t i) (replicate (longest - n) 0) n (sym at.count)
 
-  pub turn_symbol : (s : ℕ) → piece_at t i ≡ Some (Symbol s) → shut S n ≡ false → At t (i + 1) (set S n s) V (n + 1) false
+  pub shut_is : (s : ℕ) → shut (take n S) (length (take n S)) ≡ offends (Some (Symbol s)) a (symbols_to t i)
+  shut_is s = ap (λ (x : List ℕ). shut x (length x)) at_taken
+
+  pub turn_symbol : (s : ℕ) → piece_at t i ≡ Some (Symbol s) → shut (take n S) (length (take n S)) ≡ false → At t (i + 1) (set S n s) V (n + 1) false
   turn_symbol s k z =
-      let st = front_more t i (Some (Symbol s)) (symbols_to t i) V a at.front k (sym (shut_is s) ∙ z) in
-      let l : n < longest = leb-false longest n (or_parts (leb longest n) _ z).0 in
+      let y = sym (shut_is s) ∙ z in
+      let st = front_more t i (Some (Symbol s)) (symbols_to t i) V a at.front k y in
+      let l : n < longest = omega (arith, at.count, leb-false longest (length (symbols_to t i)) (or_parts (leb longest (length (symbols_to t i))) _ y).0) in
       record {
         front = record { good = st.good; symbols = refl; values = st.values; after = st.after };
         count = ap (λ (x : ℕ). x + 1) at.count ∙ sym (length_push (symbols_to t i) s) ∙ ap length (sym st.symbols);
@@ -258,7 +262,7 @@ module _ {t : List ℕ} {i : ℕ} {S V : List ℕ} {n : ℕ} {a : Bool} (at : At
       let m = length t in
       let f : or_else (first_to t m) (lacking (symbols_to t m) (values_to t m) m) ≡ 0 =
       ap₂ (λ (x : ℕ) (y : Bool). or_else x (cond y 0 (m + 1))) (ap (first_to t) (sym e) ∙ at.front.good) (ap₂ (λ (x y : Bool). x && y) (ap (λ (j : ℕ). any_above_zero (symbols_to t j)) (sym e) ∙ sym any_is) (ap (λ (j : ℕ). any_above_zero (values_to t j)) (sym e) ∙ ap any_above_zero at.front.values) ∙ z) in
-      let g : take n S ≡ symbols_to t m = ap (take n) at.padded ∙ take_at (symbols_to t i) (replicate (longest - n) 0) n (sym at.count) ∙ ap (symbols_to t) e in
+      let g : take n S ≡ symbols_to t m = at_taken ∙ ap (symbols_to t) e in
       let h : V ≡ values_to t m = sym at.front.values ∙ ap (values_to t) e in
       ap₂ (λ (x y : List ℕ). spells ((x, y))) g h
       ∙ sym (ap (λ (x : ℕ). reading_by x ((symbols_to t m, values_to t m))) f)

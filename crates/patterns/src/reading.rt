@@ -1,7 +1,7 @@
 //! Reading a pattern text: the value of place 0, the first symbol, the value of place 1, and so on, with values of 0 left out.
-ghost use Rattle.std.specs.Prelude.{◌≡◌, ◌≤◌, Bool};
+ghost use Rattle.std.specs.Prelude.{◌≡◌, length};
 ghost use Rattle.text.specs.Refusals.{six_of};
-ghost use Rattle.patterns.specs.Spellings.{longest, any_above_zero};
+ghost use Rattle.patterns.specs.Spellings.{any_above_zero};
 ghost use Rattle.patterns.specs.Texts.{piece_of, shut, reading};
 ghost use Rattle.patterns.specs.Faults.{pattern_refused};
 ghost use Rattle.patterns.specs.Promises.{Judged};
@@ -49,11 +49,10 @@ pub(crate) fn any_above(numbers: &[u8]) -> bool
 }
 
 // Whether no symbol may follow: fifteen came, or an edge that is not first.
-fn is_shut(symbols: &[u8; LONGEST], len: usize) -> bool
-    requires { len ≤ longest }
-    ensures { result ≡ shut symbols.now len }
+fn is_shut(symbols: &[u8]) -> bool
+    ensures { result ≡ shut symbols.now (length symbols.now) }
 {
-    len >= LONGEST || (len > 1 && symbols[len - 1] == 0)
+    symbols.len() >= LONGEST || matches!(symbols, [_, .., 0])
 }
 
 impl Pattern {
@@ -70,7 +69,7 @@ impl Pattern {
             let fault = BadPattern { column: i + 1 };
             match classify(*b).ok_or(fault)? {
                 Piece::Symbol(s) => {
-                    if is_shut(&symbols, len) {
+                    if is_shut(&symbols[..len]) {
                         return Err(fault);
                     }
                     symbols[len] = s;
