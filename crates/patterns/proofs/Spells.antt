@@ -2,7 +2,7 @@
 use Rattle.std.proofs.Common.{◌≡◌, ℕ, zero, suc, ◌+◌, ◌-◌, ◌<◌, ◌≤◌, Bool, true, false, cond, ◌&&◌, ◌||◌, eqb, ltb, leb, ◌≢◌, List, [], ◌∷◌, ◌++◌, length, get_or, take, set, replicate, sym, refl, ap, ◌∙◌, subst, ap₂, subst₂, ⊎_elim, append-nil, add-one, arith, Some, None, Option}
 use native.Mathlib.Decide.{le_ind}
 use Rattle.std.proofs.lemmas.List.{get_or_append_left, get_or_past, length_push, length-set, get_or-set_same, get_or-set_other, take_at, nil_from_length}
-use Rattle.std.proofs.lemmas.Bool.{cond_both, cases_lt, cases_eq, leb-true, leb-false, eqb-true, eqb-false, and_parts, or_parts, and_cases, lt-ltb, false≢true, true≢false, ltb-false}
+use Rattle.std.proofs.lemmas.Bool.{cond_both, cases_lt, cases_eq, leb-true, leb-false, eqb-true, eqb-false, and_parts, or_parts, and_cases, lt-ltb, le-ltb, false≢true, true≢false, ltb-false}
 use Rattle.std.specs.List.{list_any}
 use Rattle.text.specs.Refusals.{at_byte}
 use Rattle.text.proofs.Padding.{zeros, pad_set, pad_get}
@@ -110,6 +110,10 @@ bytes b =
     (λ _. cond_both (eqb b 46) _ _ (λ k. Bytes k b) (λ e. (sym (eqb-true b 46 e), omega arith))
     (λ _. cond_both (leb 49 b && leb b 57) _ _ (λ k. Bytes k b) (λ e. let p = and_parts (leb 49 b) (leb b 57) e in let l = leb-true 49 b p.0 in let h = leb-true b 57 p.1 in (figure b l h, omega arith)) (λ _. tt)))
 
+digit_above : (b d : ℕ) → piece_of b ≡ Some (Digit d) → 0 < d
+digit_above b zero e = let y = subst (λ (k : Option Piece). Bytes k b) e (bytes b) in absurd (omega (arith, ap length y.0))
+digit_above b (suc d) e = omega arith
+
 -- ---- what a front without fault spells is sound
 
 pub record Sound (ss vs : List ℕ) (a : Bool) : Type 0 where
@@ -189,20 +193,24 @@ sound t (suc i) e =
 
 -- ---- the loop
 
-pub record At (t : List ℕ) (i : ℕ) (S V : List ℕ) (n : ℕ) (a : Bool) : Type 0 where
-  pub front : Front t i (symbols_to t i) V a
+-- a digit stands last just where the place that it is for has its value
+pub record At (t : List ℕ) (i : ℕ) (S V : List ℕ) (n : ℕ) : Type 0 where
+  pub front : Front t i (symbols_to t i) V (ltb 0 (get_or V n 0))
   pub count : n ≡ length (symbols_to t i)
   pub few : n ≤ longest
   pub padded : S ≡ symbols_to t i ++ replicate (longest - n) 0
   pub full : length S ≡ longest
   pub wide : length V ≡ places
 
-pub at_none : (t : List ℕ) → At t 0 (replicate longest 0) (replicate places 0) 0 false
+pub at_none : (t : List ℕ) → At t 0 (replicate longest 0) (replicate places 0) 0
 unfolding symbols_to
 at_none t = record { front = front_none t; count = refl; few = omega arith; padded = refl; full = refl; wide = refl }
 
-module _ {t : List ℕ} {i : ℕ} {S V : List ℕ} {n : ℕ} {a : Bool} (at : At t i S V n a) where
-  pub at_sound : Sound (symbols_to t i) V a
+module _ {t : List ℕ} {i : ℕ} {S V : List ℕ} {n : ℕ} (at : At t i S V n) where
+  abbrev after : Bool
+  after = ltb 0 (get_or V n 0)
+
+  pub at_sound : Sound (symbols_to t i) V after
   at_sound = subst₂ (λ (x : List ℕ) (b : Bool). Sound (symbols_to t i) x b) at.front.values at.front.after (sound t i at.front.good)
 
   pub at_symbol : (k : ℕ) → get_or S k 0 ≡ get_or (symbols_to t i) k 0
@@ -211,16 +219,16 @@ module _ {t : List ℕ} {i : ℕ} {S V : List ℕ} {n : ℕ} {a : Bool} (at : At
   at_taken : take n S ≡ symbols_to t i
   at_taken = ap (take n) at.padded ∙ take_at (symbols_to t i) (replicate (longest - n) 0) n (sym at.count)
 
-  pub shut_is : (s : ℕ) → shut (take n S) (length (take n S)) ≡ offends (Some (Symbol s)) a (symbols_to t i)
+  pub shut_is : (s : ℕ) → shut (take n S) (length (take n S)) ≡ offends (Some (Symbol s)) after (symbols_to t i)
   shut_is s = ap (λ (x : List ℕ). shut x (length x)) at_taken
 
-  pub turn_symbol : (s : ℕ) → piece_at t i ≡ Some (Symbol s) → shut (take n S) (length (take n S)) ≡ false → At t (i + 1) (set S n s) V (n + 1) false
+  pub turn_symbol : (s : ℕ) → piece_at t i ≡ Some (Symbol s) → shut (take n S) (length (take n S)) ≡ false → At t (i + 1) (set S n s) V (n + 1)
   turn_symbol s k z =
       let y = sym (shut_is s) ∙ z in
-      let st = front_more t i (Some (Symbol s)) (symbols_to t i) V a at.front k y in
+      let st = front_more t i (Some (Symbol s)) (symbols_to t i) V after at.front k y in
       let l : n < longest = omega (arith, at.count, leb-false longest (length (symbols_to t i)) (or_parts (leb longest (length (symbols_to t i))) _ y).0) in
       record {
-        front = record { good = st.good; symbols = refl; values = st.values; after = st.after };
+        front = record { good = st.good; symbols = refl; values = st.values; after = st.after ∙ sym (le-ltb 0 (get_or V (n + 1) 0) (omega (arith, at_sound.within (n + 1) (omega (arith, at.count))))) };
         count = ap (λ (x : ℕ). x + 1) at.count ∙ sym (length_push (symbols_to t i) s) ∙ ap length (sym st.symbols);
         few = omega arith;
         padded = ap (λ (x : List ℕ). set x n s) at.padded ∙ pad_set longest (symbols_to t i) n s at.count l ∙ ap (λ (x : List ℕ). x ++ replicate (longest - (n + 1)) 0) (sym st.symbols);
@@ -228,12 +236,13 @@ module _ {t : List ℕ} {i : ℕ} {S V : List ℕ} {n : ℕ} {a : Bool} (at : At
         wide = at.wide;
       }
 
-  pub turn_digit : (d : ℕ) → piece_at t i ≡ Some (Digit d) → a ≡ false → At t (i + 1) S (set V n d) n true
+  pub turn_digit : (d : ℕ) → piece_at t i ≡ Some (Digit d) → get_or V n 0 ≤ 0 → At t (i + 1) S (set V n d) n
   turn_digit d k z =
-      let st = front_more t i (Some (Digit d)) (symbols_to t i) V a at.front k z in
+      let st = front_more t i (Some (Digit d)) (symbols_to t i) V after at.front k (le-ltb 0 (get_or V n 0) z) in
+      let w : n < length V = omega (arith, at.few, at.wide) in
       let e : symbols_to t (i + 1) ≡ symbols_to t i = st.symbols ∙ append-nil (symbols_to t i) in
       record {
-        front = record { good = st.good; symbols = refl; values = st.values ∙ ap (λ (x : ℕ). set V x d) (sym at.count); after = st.after };
+        front = record { good = st.good; symbols = refl; values = st.values ∙ ap (λ (x : ℕ). set V x d) (sym at.count); after = st.after ∙ sym (ap (ltb 0) (get_or-set_same V n d 0 w) ∙ lt-ltb 0 d (digit_above (get_or t i 0) d k)) };
         count = at.count ∙ ap length (sym e);
         few = at.few;
         padded = at.padded ∙ ap (λ (x : List ℕ). x ++ replicate (longest - n) 0) (sym e);
@@ -241,8 +250,8 @@ module _ {t : List ℕ} {i : ℕ} {S V : List ℕ} {n : ℕ} {a : Bool} (at : At
         wide = length-set V n d ∙ at.wide;
       }
 
-  pub refused_here : (k : Option Piece) → k ≡ piece_at t i → offends k a (symbols_to t i) ≡ true → i < length t → refused (at_byte 14 1 (i + 1)) ≡ reading t
-  refused_here k e z h = refused_at t i k (symbols_to t i) V a at.front (sym e) z h
+  pub refused_here : (k : Option Piece) → k ≡ piece_at t i → offends k after (symbols_to t i) ≡ true → i < length t → refused (at_byte 14 1 (i + 1)) ≡ reading t
+  refused_here k e z h = refused_at t i k (symbols_to t i) V after at.front (sym e) z h
 
   pub any_is : any_above_zero S ≡ any_above_zero (symbols_to t i)
   any_is = ap any_above_zero at.padded ∙ any_pad (symbols_to t i) (longest - n)

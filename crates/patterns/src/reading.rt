@@ -35,9 +35,9 @@ fn classify(b: u8) -> Option<Piece>
     ensures { result ≡ piece_of b }
 {
     match b {
-        b'a'..=b'z' => Some(Piece::Symbol(b - 96)),
+        b'a'..=b'z' => Some(Piece::Symbol(b - b'a' + 1)),
         b'.' => Some(Piece::Symbol(0)),
-        b'1'..=b'9' => Some(Piece::Digit(b - 48)),
+        b'1'..=b'9' => Some(Piece::Digit(b - b'0')),
         _ => None,
     }
 }
@@ -64,7 +64,6 @@ impl Pattern {
         let mut symbols = [0; LONGEST];
         let mut values = [0; PLACES];
         let mut len = 0;
-        let mut after_digit = false;
         for (i, b) in text.iter().enumerate() {
             let fault = BadPattern { column: i + 1 };
             match classify(*b).ok_or(fault)? {
@@ -74,14 +73,12 @@ impl Pattern {
                     }
                     symbols[len] = s;
                     len += 1;
-                    after_digit = false;
                 }
                 Piece::Digit(d) => {
-                    if after_digit {
+                    if values[len] > 0 {
                         return Err(fault);
                     }
                     values[len] = d;
-                    after_digit = true;
                 }
             }
         }

@@ -14,17 +14,18 @@ fn symbol_byte(symbol: u8) -> u8
     requires { symbol ≤ alphabet }
     ensures { result ≡ byte_of symbol }
 {
-    if symbol > 0 { 96 + symbol } else { 46 }
+    if symbol > 0 { b'a' - 1 + symbol } else { b'.' }
 }
 
 // Writes a value above 0 at `at`, and answers where the text goes on.
+// The place is a number, since a value of 0 takes no byte: no iterator over the lent bytes says that more plainly.
 fn put_digit(memory: &mut [u8], at: usize, value: u8) -> usize
     requires { (value ≤ highest) × (at + length (digit value) ≤ length memory.old) }
     ensures place { result ≡ at + length (digit value) }
     ensures left { memory.new ≡ with_digit memory.old at value }
 {
     if value > 0 {
-        memory[at] = 48 + value;
+        memory[at] = b'0' + value;
         at + 1
     } else {
         at

@@ -9,4 +9,3 @@ returns-then-at-lt1 c =
       | then-at-lt1-via-then-at-lt1 w ↦ inl w.if-at-lt1.true
       | then-at-lt1-via-else-at-lt1+then-at-word w ↦ inr w.if-at-word.true
     ]))
-

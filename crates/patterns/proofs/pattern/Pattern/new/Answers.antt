@@ -40,4 +40,3 @@ invariant_of-result c =
           let e : suc (length (symbols_of s)) + (k - suc s.len) ≡ k = omega arith in
           sym (ap (λ (j : ℕ). get_or vs j 0) e) ∙ sym (get_or-drop (suc (length (symbols_of s))) vs (k - suc s.len) 0) ∙ z (k - suc s.len));
     }
-
