@@ -75,7 +75,8 @@ impl Pattern {
                     len += 1;
                 }
                 Piece::Digit(d) => {
-                    if values[len] > 0 {
+                    let after_digit = values[len] > 0;
+                    if after_digit {
                         return Err(fault);
                     }
                     values[len] = d;

@@ -5,7 +5,7 @@ use Rattle.patterns.specs.Spellings.{any_above_zero}
 use Rattle.patterns.proofs.Spells.{at_none, at_sound, shut_is, turn_symbol, turn_digit, refused_here, end_lacks, end_spelt, end_edged, end_symbolic, end_padded, end_within, end_len}
 use Rattle.patterns.proofs.Judging.{judged_as}
 use Rattle.patterns.proofs.pattern.Pattern.read.Goals as goal
-use Rattle.patterns.proofs.pattern.Pattern.read.Goals.{in-Symbol+else-is_shut, in-Digit+else-values-len-gt0, then-not-any_above-via-then-not-any_above, then-not-any_above-via-else-not-any_above+then-not-any_above-2}
+use Rattle.patterns.proofs.pattern.Pattern.read.Goals.{in-Symbol+else-is_shut, in-Digit+else-after_digit, then-not-any_above-via-then-not-any_above, then-not-any_above-via-else-not-any_above+then-not-any_above-2}
 
 pub loop-i-init : goal.loop-i-init
 loop-i-init c = at_none c.args.text.now
@@ -22,9 +22,9 @@ returns-then-is_shut c =
     let v = refused_here at _ (sym (c.in_ok-s.ensures.ok_part ∙ ap Some c.in-Symbol.is) ∙ c.classify.ensures) (sym (shut_is at c.in-Symbol.s) ∙ sym c.if-is_shut.ensures) c.loop-i-test.true in
     record { value = v; meaning = judged_as c.args.text.now _ v }
 
-pub returns-then-values-len-gt0 : goal.returns-then-values-len-gt0
-returns-then-values-len-gt0 c =
-    let v = refused_here c.loop-i.invariant _ (sym (c.in_ok-s.ensures.ok_part ∙ ap Some c.in-Digit.is) ∙ c.classify.ensures) (lt-ltb 0 _ c.if-values-len-gt0.true) c.loop-i-test.true in
+pub returns-then-after_digit : goal.returns-then-after_digit
+returns-then-after_digit c =
+    let v = refused_here c.loop-i.invariant _ (sym (c.in_ok-s.ensures.ok_part ∙ ap Some c.in-Digit.is) ∙ c.classify.ensures) (lt-ltb 0 _ c.if-after_digit.true) c.loop-i-test.true in
     record { value = v; meaning = judged_as c.args.text.now _ v }
 
 pub loop-i-preserved : goal.loop-i-preserved
@@ -32,7 +32,7 @@ loop-i-preserved c =
     let at = c.loop-i.invariant in
     elim c.match-branch-2.branch [
       | in-Symbol+else-is_shut w ↦ rw (w.symbols-is, w.values-is, w.len-is) (turn_symbol at w.in-Symbol.s (sym c.classify.ensures ∙ c.in_ok-s.ensures.ok_part ∙ ap Some w.in-Symbol.is) (sym w.is_shut.ensures ∙ w.if-is_shut.false))
-      | in-Digit+else-values-len-gt0 w ↦ rw (w.symbols-is, w.values-is, w.len-is) (turn_digit at w.in-Digit.d (sym c.classify.ensures ∙ c.in_ok-s.ensures.ok_part ∙ ap Some w.in-Digit.is) w.if-values-len-gt0.false)
+      | in-Digit+else-after_digit w ↦ rw (w.symbols-is, w.values-is, w.len-is) (turn_digit at w.in-Digit.d (sym c.classify.ensures ∙ c.in_ok-s.ensures.ok_part ∙ ap Some w.in-Digit.is) w.if-after_digit.false)
     ]
 
 pub returns-then-not-any_above : goal.returns-then-not-any_above
