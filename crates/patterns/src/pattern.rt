@@ -14,6 +14,7 @@ pub const PLACES: usize = 16;
 /// derived order is that of the symbols: where one spelling begins another, the shorter comes first.
 #[derive(Clone, Copy, Debug, PartialEq, Eq, PartialOrd, Ord)]
 pub struct Spelling {
+    // No heap: the symbols stand in an array, and how many they are beside it.
     pub symbols: [u8; LONGEST],
     pub len: usize,
     ghost full: { length symbols ≡ longest },

@@ -61,6 +61,7 @@ impl Pattern {
         ensures value { answer result ≡ reading text.now }
         ensures meaning { Judged text.now (answer result) }
     {
+        // No heap: the symbols and the values stand in arrays, and how many symbols came beside them.
         let mut symbols = [0; LONGEST];
         let mut values = [0; PLACES];
         let mut len = 0;
