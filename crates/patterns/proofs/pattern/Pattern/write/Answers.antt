@@ -2,7 +2,7 @@ use Rattle.std.proofs.Common.{◌≡◌, ℕ, ◌+◌, ◌<◌, ◌≤◌, List,
 use Rattle.std.specs.declared.iter.Zip.{Zip}
 use Rattle.std.specs.Iterator.Adapters.{zip_first, zip_second}
 use Rattle.std.specs.Slice.Iter.{iter_rest}
-use Rattle.std.proofs.lemmas.List.{length-set, length-drop, length_push, take_all}
+use Rattle.std.proofs.lemmas.List.{get_or-take, length-set, length-drop, length_push, take_all}
 use Rattle.patterns.specs.Texts.{text_to, text_of, digit}
 use Rattle.patterns.specs.Views.{symbols_of, spelled}
 use Rattle.patterns.proofs.Bytes.{len_mono, digit_first, digit_behind, symbols_length}
@@ -31,6 +31,13 @@ loop-symbol-init c =
       place = e;
       left = l ∙ digit_first c.args.memory.now v r ∙ ap₂ (λ (j : ℕ) (x : List ℕ). digit v ++ drop j x) (sym e) (sym l);
     }
+
+pub symbol_byte-requires : goal.symbol_byte-requires
+symbol_byte-requires c =
+    let s = c.args.self.now.spelling in
+    let k = length c.loop-symbol.yielded in
+    let t = turn _ c.args.self.now.row.values _ c.into_iter-symbol-iterator.result c.loop-symbol.symbol-iterator c.next.new.self _ (c.in-Some.symbol, c.in-Some.value) c.loop-symbol.invariant.symbols c.loop-symbol.invariant.values c.loop-symbol.yielded_by c.in-Some.is c.next.ensures.steps in
+    omega (arith, t.of_symbol, get_or-take s.len s.symbols k 0 (omega (arith, t.inside, symbols_length s.len s.symbols s.sized.1 s.full)), s.symbolic k)
 
 pub bounds-memory-at : goal.bounds-memory-at
 bounds-memory-at c =
