@@ -1,17 +1,16 @@
 -- Writing a text: one symbol and one value more, and the memory behind.
-use Rattle.std.proofs.Common.{◌≡◌, ℕ, zero, suc, ◌+◌, ◌<◌, ◌≤◌, List, [], ◌∷◌, ◌++◌, length, get_or, take, drop, set, sym, refl, ap, ◌∙◌, ap₂, append_assoc, append-nil, add-zero, add-one, arith}
+use Rattle.std.proofs.Common.{◌≡◌, ℕ, zero, suc, ◌+◌, ◌<◌, ◌≤◌, cond, ltb, List, [], ◌∷◌, ◌++◌, length, get_or, take, drop, set, sym, refl, ap, ◌∙◌, ap₂, append_assoc, append-nil, add-zero, add-one, arith}
 use native.Mathlib.Decide.{le_ind}
-use Rattle.std.proofs.lemmas.List.{set_at, length-append, drop_more, drop-set-lt, length_push, length-take-le}
+use Rattle.std.proofs.lemmas.List.{set_at, length-append, drop_more, drop-set-lt, length-take-le}
+use Rattle.std.specs.List.{count_by, filter}
+use Rattle.std.proofs.lemmas.List.Sums.{count_by_more_no, count_by_more_yes, length-filter}
+use Rattle.std.proofs.lemmas.Bool.{le-ltb, lt-ltb}
 use Rattle.patterns.specs.Spellings.{longest}
 use Rattle.patterns.specs.Texts.{digit, byte_of, text_to, with_digit}
 
 pub text_more : (ss vs : List ℕ) (k : ℕ) → text_to ss vs (k + 1) ≡ text_to ss vs k ++ byte_of (get_or ss k 0) ∷ digit (get_or vs (k + 1) 0)
 unfolding text_to
 text_more ss vs k = ap (text_to ss vs) (add-one k) ∙ ap (λ (x : ℕ). text_to ss vs k ++ byte_of (get_or ss k 0) ∷ digit (get_or vs x 0)) (sym (add-one k))
-
-pub digit_le : (v : ℕ) → length (digit v) ≤ 1
-digit_le zero = omega arith
-digit_le (suc v) = omega arith
 
 pub len_more : (ss vs : List ℕ) (k : ℕ) → length (text_to ss vs (k + 1)) ≡ length (text_to ss vs k) + (1 + length (digit (get_or vs (k + 1) 0)))
 len_more ss vs k =
@@ -23,6 +22,38 @@ rises ss vs k = omega (arith, len_more ss vs k, ap (λ (x : ℕ). length (text_t
 
 pub len_mono : (ss vs : List ℕ) (k m : ℕ) → k ≤ m → length (text_to ss vs k) ≤ length (text_to ss vs m)
 len_mono ss vs k m h = le_ind (λ (j : ℕ). length (text_to ss vs k) ≤ length (text_to ss vs j)) (omega arith) (λ j _ q. omega (arith, q, rises ss vs j)) m h
+
+-- ---- the length: a byte for each symbol, and one for each value above 0
+
+value_counted : (vs : List ℕ) (k v : ℕ) → k < length vs → get_or vs k 0 ≡ v → count_by (λ x. ltb 0 x) (take (k + 1) vs) ≡ count_by (λ x. ltb 0 x) (take k vs) + length (digit v)
+value_counted vs k zero h e = count_by_more_no (λ x. ltb 0 x) vs k 0 h (le-ltb 0 (get_or vs k 0) (omega arith)) ∙ omega arith
+value_counted vs k (suc v) h e = count_by_more_yes (λ x. ltb 0 x) vs k 0 h (lt-ltb 0 (get_or vs k 0) (omega arith))
+
+values_counted : (ss vs : List ℕ) (k : ℕ) → k < length vs → length (text_to ss vs k) ≡ k + count_by (λ x. ltb 0 x) (take (k + 1) vs)
+unfolding text_to
+values_counted ss vs zero h = let a = value_counted vs 0 (get_or vs 0 0) h refl in omega arith
+values_counted ss vs (suc k) h =
+    let a = values_counted ss vs k (omega arith) in
+    let b = value_counted vs (suc k) (get_or vs (suc k) 0) h refl in
+    let c = length-append (text_to ss vs k) (byte_of (get_or ss k 0) ∷ digit (get_or vs (suc k) 0)) in
+    let d = ap (λ (j : ℕ). count_by (λ x. ltb 0 x) (take j vs)) (add-one k) in
+    omega arith
+
+counted_front : (n : ℕ) (vs : List ℕ) → ((k : ℕ) → n ≤ k → get_or vs k 0 ≡ 0) → filter (λ x. ltb 0 x) vs ≡ filter (λ x. ltb 0 x) (take n vs)
+counted_front zero [] z = refl
+counted_front zero (zero ∷ vs) z = counted_front zero vs (λ k _. z (suc k) (omega arith))
+counted_front zero (suc v ∷ vs) z = absurd (omega (arith, z 0 (omega arith)))
+counted_front (suc n) [] z = refl
+counted_front (suc n) (v ∷ vs) z = ap (λ (r : List ℕ). cond (ltb 0 v) (v ∷ r) r) (counted_front n vs (λ k h. z (suc k) (omega arith)))
+
+pub text_counted : (ss vs : List ℕ) (n : ℕ) → length ss ≡ n → n < length vs → ((k : ℕ) → n < k → get_or vs k 0 ≡ 0) → n + length (filter (λ x. ltb 0 x) vs) ≡ length (text_to ss vs (length ss))
+text_counted ss vs n e h z =
+    ap (λ (c : List ℕ). n + length c) (counted_front (n + 1) vs (λ k l. z k (omega arith)))
+    ∙ ap (λ (c : ℕ). n + c) (length-filter (λ x. ltb 0 x) (take (n + 1) vs))
+    ∙ sym (values_counted ss vs n h)
+    ∙ ap (λ (k : ℕ). length (text_to ss vs k)) (sym e)
+
+-- ---- the bytes
 
 pub put_front : (T E out : List ℕ) (i b : ℕ) → i ≡ length T → i < length E → out ≡ T ++ drop i E → set out i b ≡ (T ++ b ∷ []) ++ drop (i + 1) E
 put_front T E out i b e h o =
@@ -43,21 +74,6 @@ digit_first (x ∷ out) (suc v) h = refl
 pub digit_behind : (out : List ℕ) (v n : ℕ) → length (digit v) ≤ n → drop n (with_digit out 0 v) ≡ drop n out
 digit_behind out zero n h = refl
 digit_behind out (suc v) n h = drop-set-lt n out 0 (48 + suc v) (omega arith)
-
-pub room : (ss vs : List ℕ) (k m i n o : ℕ) → length ss ≡ m → k < m → i ≡ length (text_to ss vs k) → n ≡ length (text_to ss vs (length ss)) → n ≤ o → i + (1 + length (digit (get_or vs (k + 1) 0))) ≤ o
-room ss vs k m i n o l h e f g = omega (arith, len_more ss vs k, len_mono ss vs (k + 1) (length ss) (omega arith))
-
-pub write_step : (ss vs E out : List ℕ) (k i b i' : ℕ) → i ≡ length (text_to ss vs k) → out ≡ text_to ss vs k ++ drop i E → b ≡ byte_of (get_or ss k 0) → i + (1 + length (digit (get_or vs (k + 1) 0))) ≤ length E → i' ≡ i + 1 + length (digit (get_or vs (k + 1) 0))
-    → (i' ≡ length (text_to ss vs (k + 1))) × (with_digit (set out i b) (i + 1) (get_or vs (k + 1) 0) ≡ text_to ss vs (k + 1) ++ drop i' E)
-write_step ss vs E out k i b i' e o f h g =
-    let T = text_to ss vs k in
-    let v = get_or vs (k + 1) 0 in
-    let q : i < length E = omega arith in
-    let r : i + 1 + length (digit v) ≤ length E = omega arith in (
-      omega (arith, len_more ss vs k),
-      put_digit_front (T ++ b ∷ []) E (set out i b) (i + 1) v (ap (λ (x : ℕ). x + 1) e ∙ sym (length_push T b)) r (put_front T E out i b e q o)
-          ∙ ap₂ (λ (x : List ℕ) (j : ℕ). x ++ drop j E) (append_assoc T (b ∷ []) (digit v) ∙ ap (λ (x : ℕ). T ++ x ∷ digit v) f ∙ sym (text_more ss vs k)) (sym g),
-    )
 
 pub symbols_length : (n : ℕ) (S : List ℕ) → n ≤ longest → length S ≡ longest → length (take n S) ≡ n
 symbols_length n S h e = length-take-le n S (omega arith)

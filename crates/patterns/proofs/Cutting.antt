@@ -1,24 +1,20 @@
 -- Padded words, their symbols and their parts.
-use Rattle.std.proofs.Common.{◌≡◌, ℕ, zero, suc, ◌+◌, ◌-◌, ◌<◌, ◌≤◌, Bool, ◌&&◌, leb, ◌≢◌, ◌⊎◌, List, [], ◌∷◌, length, get_or, take, drop, set, sym, refl, ap, ◌∙◌, subst, inl, inr, ⊎_elim, arith}
-use Rattle.std.proofs.lemmas.List.{get_or_append_left, get_or-append_right, get_or-take, get_or-drop, get_or-set_same, get_or-set_other, length-set, length-take-le, length-drop, length-append, ext_get_or}
-use Rattle.std.proofs.lemmas.Bool.{cases_lt, cases_eq, le-leb}
-use Rattle.words.specs.Words.{Headword, alphabet}
+use Rattle.std.proofs.Common.{◌≡◌, ℕ, zero, suc, ◌+◌, ◌-◌, ◌<◌, ◌≤◌, Bool, ◌&&◌, leb, ◌⊎◌, List, [], ◌∷◌, length, get_or, take, drop, sym, refl, ap, ◌∙◌, inl, inr, arith}
+use Rattle.std.proofs.lemmas.List.{get_or-append_right, get_or-take, get_or-drop, length-take-le, length-drop, length-append, ext_get_or}
+use Rattle.std.proofs.lemmas.Bool.{le-leb}
+use Rattle.words.specs.Words.{Headword}
 use Rattle.words.specs.declared.word.Word.{Word}
 use Rattle.words.specs.Views.{headword}
 use Rattle.patterns.specs.Spellings.{longest, any_above_zero}
 use Rattle.patterns.specs.Parts.{padded, part, is_spelling}
+-- zeros behind do not matter
+pub use Rattle.patterns.proofs.Spells.{above_front}
 
 pub letters_length : (w : Word) → length (take w.len w.letters) ≡ w.len
 letters_length w = length-take-le w.len w.letters (omega (arith, w.full, w.sized.1))
 
 pub padded_length : (w : Headword) → length (padded w) ≡ length w.0 + 2
 padded_length w = let e = length-append w.0 (0 ∷ []) in omega arith
-
--- a letter
-pub padded_letter : (w : Word) (p : ℕ) → p < w.len → get_or (padded (headword w)) (suc p) 0 ≡ get_or w.letters p 0
-padded_letter w p h =
-    let e = letters_length w in
-    get_or_append_left (take w.len w.letters) (0 ∷ []) 0 p (omega arith) ∙ get_or-take w.len w.letters p 0 h
 
 -- an edge, or what lies beyond it
 lone : (k : ℕ) → get_or {A = ℕ} (0 ∷ []) k 0 ≡ 0
@@ -31,39 +27,12 @@ padded_edge w (suc p) (inl h) = absurd (omega arith)
 padded_edge w (suc p) (inr h) =
     get_or-append_right (take w.len w.letters) (0 ∷ []) w.len p 0 (letters_length w) (omega arith) ∙ lone (p - w.len)
 
-pub padded_at : (w : Word) (p : ℕ) → 1 ≤ p → p ≤ w.len → get_or w.letters (p - 1) 0 ≡ get_or (padded (headword w)) p 0
-padded_at w zero l h = absurd (omega arith)
-padded_at w (suc p) l h = let e : suc p - 1 ≡ p = omega arith in ap (λ (q : ℕ). get_or w.letters q 0) e ∙ sym (padded_letter w p (omega arith))
-
--- every symbol of a padded word is one, and those between the edges are letters
-pub padded_symbol : (w : Word) (p : ℕ) → get_or (padded (headword w)) p 0 ≤ alphabet
-padded_symbol w zero = omega arith
-padded_symbol w (suc p) =
-    ⊎_elim
-    (λ (h : p < w.len). let e = padded_letter w p h in omega (arith, (w.lettered p h).1))
-    (λ (h : w.len ≤ p). let e = padded_edge w (suc p) (inr (omega arith)) in omega arith)
-    (cases_lt p w.len)
-
-pub padded_inner : (w : Word) (p : ℕ) → 0 < p → p ≤ w.len → 0 < get_or (padded (headword w)) p 0
-padded_inner w zero l h = absurd (omega arith)
-padded_inner w (suc p) l h = let h' : p < w.len = omega arith in let e = padded_letter w p h' in omega (arith, (w.lettered p h').0)
-
 -- ---- the symbols of a part in an array, and then only 0
 
 pub record Cut (w : Word) (s m : ℕ) (symbols : List ℕ) : Type 0 where
   pub full : length symbols ≡ longest
   pub here : (k : ℕ) → k < m → get_or symbols k 0 ≡ get_or (padded (headword w)) (s + k) 0
   pub unused : (k : ℕ) → m ≤ k → get_or symbols k 0 ≡ 0
-
-pub cut_more : (w : Word) (s m x : ℕ) (symbols : List ℕ) → m < longest → x ≡ get_or (padded (headword w)) (s + m) 0 → Cut w s m symbols → Cut w s (m + 1) (set symbols m x)
-cut_more w s m x symbols h e c = record {
-  full = length-set symbols m x ∙ c.full;
-  here = λ k l. ⊎_elim
-      (λ (q : k ≡ m). subst (λ (z : ℕ). get_or (set symbols m x) z 0 ≡ get_or (padded (headword w)) (s + z) 0) (sym q) (get_or-set_same symbols m x 0 (omega (arith, c.full)) ∙ e))
-      (λ (q : k ≡ m → ⊥). get_or-set_other symbols m k x 0 q ∙ c.here k (omega arith))
-      (cases_eq k m);
-  unused = λ k l. let q : k ≢ m = omega arith in get_or-set_other symbols m k x 0 q ∙ c.unused k (omega arith);
-}
 
 pub cut_part : (w : Word) (s m : ℕ) (symbols : List ℕ) → m ≤ longest → s + m ≤ w.len + 2 → Cut w s m symbols → take m symbols ≡ part (padded (headword w)) s m
 cut_part w s m symbols h l c =
@@ -74,15 +43,6 @@ cut_part w s m symbols h l c =
     let o : length (part (padded (headword w)) s m) ≡ m = length-take-le m (drop s (padded (headword w))) (omega arith) in
     ext_get_or 0 (take m symbols) (part (padded (headword w)) s m) (n ∙ sym o) (λ k g. let g' : k < m = omega arith in
     get_or-take m symbols k 0 g' ∙ c.here k g' ∙ sym (get_or-take m (drop s (padded (headword w))) k 0 g' ∙ get_or-drop s (padded (headword w)) k 0))
-
--- zeros behind do not matter
-pub above_front : (m : ℕ) (xs : List ℕ) → ((k : ℕ) → m ≤ k → get_or xs k 0 ≡ 0) → any_above_zero xs ≡ any_above_zero (take m xs)
-above_front zero [] z = refl
-above_front zero (zero ∷ xs) z = above_front zero xs (λ k _. z (suc k) (omega arith))
-above_front zero (suc x ∷ xs) z = absurd (omega (arith, z 0 (omega arith)))
-above_front (suc m) [] z = refl
-above_front (suc m) (zero ∷ xs) z = above_front m xs (λ k h. z (suc k) (omega arith))
-above_front (suc m) (suc x ∷ xs) z = refl
 
 -- ---- whether a part is a spelling
 

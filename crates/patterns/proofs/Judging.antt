@@ -1,9 +1,9 @@
 -- Why the reading of a text says in the subject's words what the text is: the theorem behind `Pattern::read`.
-use Rattle.std.proofs.Common.{◌≡◌, ℕ, zero, suc, ◌+◌, ◌-◌, ◌<◌, ◌≤◌, Bool, true, false, cond, ◌&&◌, eqb, ltb, leb, List, length, get_or, sym, refl, ap, ◌∙◌, subst, ⊎_elim, add-one, arith}
+use Rattle.std.proofs.Common.{◌≡◌, ℕ, zero, suc, ◌+◌, ◌-◌, ◌<◌, ◌≤◌, Bool, true, false, cond, ◌&&◌, eqb, ltb, leb, List, length, get_or, sym, refl, ap, ◌∙◌, subst, ⊎_elim, add-one, arith, Some, None, Option}
 use Rattle.std.proofs.lemmas.Bool.{cases_lt, leb-true, ltb-true, eqb-true, le-leb, lt-ltb, eq-eqb, and_parts, and_cases, and_from, or_cases, or_left, or_right, false≢true, both_ways}
 use Rattle.text.specs.Refusals.{at_byte}
 use Rattle.patterns.specs.declared.reading.Piece.{Piece}
-use Rattle.patterns.specs.declared.reading.Piece.TheVariants.{Symbol, Digit, Other}
+use Rattle.patterns.specs.declared.reading.Piece.TheVariants.{Symbol, Digit}
 use Rattle.patterns.specs.Spellings.{longest, any_above_zero, Valid}
 use Rattle.patterns.specs.Texts.{piece_at, is_digit, symbols_to, values_to, after_digit, shut, offends, offends_at, or_else, first_to, lacking, Reading, spells, reading_by, reading}
 use Rattle.patterns.specs.Promises.{RoundTrips, Cause, neither, digit_after_digit, sixteenth, after_edge, FaultAt, offending, lacks, Judged}
@@ -17,16 +17,16 @@ unfolding after_digit
 after_digit_lem text zero e = absurd (false≢true e)
 after_digit_lem text (suc j) e = (j, refl, e)
 
-digit_after : (text : List ℕ) (i j d : ℕ) → i ≡ suc j → piece_at text j ≡ Digit d → after_digit text i ≡ true
+digit_after : (text : List ℕ) (i j d : ℕ) → i ≡ suc j → piece_at text j ≡ Some (Digit d) → after_digit text i ≡ true
 unfolding after_digit
 digit_after text i j d e k = ap (after_digit text) e ∙ ap is_digit k
 
-the_digit : (k : Piece) → is_digit k ≡ true → (d : ℕ) × (k ≡ Digit d)
-the_digit (Symbol s) e = absurd (false≢true e)
-the_digit (Digit d) e = (d, refl)
-the_digit Other e = absurd (false≢true e)
+the_digit : (k : Option Piece) → is_digit k ≡ true → (d : ℕ) × (k ≡ Some (Digit d))
+the_digit (Some (Symbol s)) e = absurd (false≢true e)
+the_digit (Some (Digit d)) e = (d, refl)
+the_digit None e = absurd (false≢true e)
 
-shut_cause : (text : List ℕ) (i s : ℕ) → piece_at text i ≡ Symbol s → length (symbols_to text i) ≤ longest → shut (symbols_to text i) (length (symbols_to text i)) ≡ true → Cause text i
+shut_cause : (text : List ℕ) (i s : ℕ) → piece_at text i ≡ Some (Symbol s) → length (symbols_to text i) ≤ longest → shut (symbols_to text i) (length (symbols_to text i)) ≡ true → Cause text i
 shut_cause text i s k few e =
     let ss = symbols_to text i in
     let n = length ss in
@@ -40,33 +40,33 @@ shut_cause text i s k few e =
     after_edge s (n - 2) k w (ap (λ (x : ℕ). get_or ss x 0) v ∙ eqb-true (get_or ss (n - 1) 0) 0 q.1))
     (or_cases (leb longest n) (ltb 1 n && eqb (get_or ss (n - 1) 0) 0) e)
 
-cause_by : (text : List ℕ) (i : ℕ) (k : Piece) → piece_at text i ≡ k → length (symbols_to text i) ≤ longest → offends k (after_digit text i) (symbols_to text i) ≡ true → Cause text i
-cause_by text i (Symbol s) k few e = shut_cause text i s k few e
-cause_by text i (Digit d) k few e =
+cause_by : (text : List ℕ) (i : ℕ) (k : Option Piece) → piece_at text i ≡ k → length (symbols_to text i) ≤ longest → offends k (after_digit text i) (symbols_to text i) ≡ true → Cause text i
+cause_by text i (Some (Symbol s)) k few e = shut_cause text i s k few e
+cause_by text i (Some (Digit d)) k few e =
     let p = after_digit_lem text i e in
     let q = the_digit (piece_at text p.0) p.2 in
     digit_after_digit q.0 d p.0 p.1 q.1 k
-cause_by text i Other k few e = neither k
+cause_by text i None k few e = neither k
 
 offends_cause : (text : List ℕ) (i : ℕ) → length (symbols_to text i) ≤ longest → offends_at text i ≡ true → Cause text i
 unfolding offends_at
 offends_cause text i few e = cause_by text i (piece_at text i) refl few e
 
-offends_at_lem : (text : List ℕ) (i : ℕ) (k : Piece) → piece_at text i ≡ k → offends k (after_digit text i) (symbols_to text i) ≡ true → offends_at text i ≡ true
+offends_at_lem : (text : List ℕ) (i : ℕ) (k : Option Piece) → piece_at text i ≡ k → offends k (after_digit text i) (symbols_to text i) ≡ true → offends_at text i ≡ true
 unfolding offends_at
-offends_at_lem text i k e h = ap (λ (x : Piece). offends x (after_digit text i) (symbols_to text i)) e ∙ h
+offends_at_lem text i k e h = ap (λ (x : Option Piece). offends x (after_digit text i) (symbols_to text i)) e ∙ h
 
 cause_offends : (text : List ℕ) (i : ℕ) → Cause text i → offends_at text i ≡ true
-cause_offends text i (neither k) = offends_at_lem text i Other k refl
-cause_offends text i (digit_after_digit d e j s k l) = offends_at_lem text i (Digit e) l (digit_after text i j d s k)
+cause_offends text i (neither k) = offends_at_lem text i None k refl
+cause_offends text i (digit_after_digit d e j s k l) = offends_at_lem text i (Some (Digit e)) l (digit_after text i j d s k)
 cause_offends text i (sixteenth s k w) =
     let n = length (symbols_to text i) in
-    offends_at_lem text i (Symbol s) k (or_left (leb longest n) _ (le-leb longest n (omega arith)))
+    offends_at_lem text i (Some (Symbol s)) k (or_left (leb longest n) _ (le-leb longest n (omega arith)))
 cause_offends text i (after_edge s m k w z) =
     let ss = symbols_to text i in
     let n = length ss in
     let v : n - 1 ≡ suc m = omega arith in
-    offends_at_lem text i (Symbol s) k
+    offends_at_lem text i (Some (Symbol s)) k
     (or_right (leb longest n) _ (and_from (ltb 1 n) (eqb (get_or ss (n - 1) 0) 0) (lt-ltb 1 n (omega arith)) (eq-eqb (get_or ss (n - 1) 0) 0 (ap (λ (x : ℕ). get_or ss x 0) v ∙ z))))
 
 -- ---- the first offending byte

@@ -6,3 +6,4 @@ pub mod Ordered
 pub mod Cutting
 pub mod Rowing
 pub mod RowLaws
+mod Turns

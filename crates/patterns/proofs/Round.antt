@@ -1,5 +1,5 @@
 -- The two round trips: a text that was read is written back, and a pattern that was written is read back.
-use Rattle.std.proofs.Common.{◌≡◌, ℕ, zero, suc, ◌+◌, ◌-◌, ◌<◌, ◌≤◌, Bool, true, false, cond, ◌&&◌, eqb, ltb, leb, ◌≢◌, List, [], ◌∷◌, ◌++◌, length, get_or, take, set, replicate, sym, refl, ap, ◌∙◌, subst, ap₂, subst₂, ⊎_elim, append_assoc, append-nil, add-zero, zero-add, add-one, arith, lit<}
+use Rattle.std.proofs.Common.{◌≡◌, ℕ, zero, suc, ◌+◌, ◌-◌, ◌<◌, ◌≤◌, Bool, true, false, cond, ◌&&◌, eqb, ltb, leb, ◌≢◌, List, [], ◌∷◌, ◌++◌, length, get_or, take, set, replicate, sym, refl, ap, ◌∙◌, subst, ap₂, subst₂, ⊎_elim, append_assoc, append-nil, add-zero, zero-add, add-one, arith, lit<, Some, None, Option}
 use mathlib.Core.Path.{subst₃}
 use Rattle.std.proofs.lemmas.List.{get_or_append_left, get_or_at, length_push, length-append, get_or_push, length-set, get_or-set_same, get_or-set_other, set-get_or, take_more, take_all, length-take-le, get_or-take, get_or_past, ext_get_or}
 use Rattle.std.proofs.lemmas.Bool.{cases_lt, cases_eq, le-leb, lt-leb, le-ltb, ne_eqb, and_from, and_left, and_right, or_from, true≢false, cond-true, cond-false}
@@ -8,11 +8,10 @@ use Rattle.words.specs.Words.{alphabet}
 use Rattle.patterns.specs.Spellings.{longest, places, highest, any_above_zero, Spelled, Valid}
 use Rattle.patterns.specs.Views.{spelled}
 use Rattle.patterns.specs.declared.reading.Piece.{Piece}
-use Rattle.patterns.specs.declared.reading.Piece.TheVariants.{Symbol, Digit, Other}
+use Rattle.patterns.specs.declared.reading.Piece.TheVariants.{Symbol, Digit}
 use Rattle.patterns.specs.Texts.{digit, byte_of, text_to, text_of, piece_of, piece_at, symbol_in, with_value, symbols_to, values_to, after_digit, shut, offends, offends_at, or_else, first_to, spells, reading_by, lacking, reading}
 use Rattle.patterns.specs.declared.pattern.Pattern.{Pattern}
-use Rattle.patterns.proofs.Bytes.{digit_le}
-use Rattle.patterns.proofs.Spells.{Front, front_none, front_more, Sound, sound, bytes, Bytes, inverse, no_offence}
+use Rattle.patterns.proofs.Spells.{above_front, Front, front_none, front_more, Sound, sound, bytes, Bytes, inverse, no_offence}
 
 -- ---- a text depends on the symbols before its place, and on the values up to it
 
@@ -37,19 +36,19 @@ text_digit ss vs (suc n) d h z =
 full : List ℕ → List ℕ → List ℕ
 full ss vs = text_to ss vs (length ss)
 
-text_byte : (k : Piece) (b : ℕ) (ss vs : List ℕ) (a : Bool) → Bytes k b → offends k a ss ≡ false → Sound ss vs a → full (ss ++ symbol_in k) (with_value k (length ss) vs) ≡ full ss vs ++ b ∷ []
+text_byte : (k : Option Piece) (b : ℕ) (ss vs : List ℕ) (a : Bool) → Bytes k b → offends k a ss ≡ false → Sound ss vs a → full (ss ++ symbol_in k) (with_value k (length ss) vs) ≡ full ss vs ++ b ∷ []
 unfolding full text_to
-text_byte (Symbol s) b ss vs a y z h =
+text_byte (Some (Symbol s)) b ss vs a y z h =
     ap (text_to (ss ++ s ∷ []) vs) (length_push ss s ∙ add-one (length ss))
     ∙ ap₂ (λ (x : List ℕ) (v : ℕ). x ++ byte_of (get_or (ss ++ s ∷ []) (length ss) 0) ∷ digit v)
     (text_same (ss ++ s ∷ []) ss vs vs (length ss) (λ j l. get_or_append_left ss (s ∷ []) 0 j l) (λ j _. refl))
     (h.within (suc (length ss)) (omega arith))
     ∙ ap (λ (x : ℕ). text_to ss vs (length ss) ++ x ∷ []) (ap byte_of (get_or_push ss s 0 (length ss) refl) ∙ y.0)
-text_byte (Digit d) b ss vs a y z h =
+text_byte (Some (Digit d)) b ss vs a y z h =
     ap (λ (x : List ℕ). text_to x (set vs (length ss) d) (length x)) (append-nil ss)
     ∙ text_digit ss vs (length ss) d (omega (arith, h.few, h.width)) (h.here z)
     ∙ ap (λ (x : List ℕ). text_to ss vs (length ss) ++ x) y.0
-text_byte Other b ss vs a y z h = absurd (true≢false z)
+text_byte None b ss vs a y z h = absurd (true≢false z)
 
 text_front : (t : List ℕ) (i : ℕ) → i ≤ length t → first_to t i ≡ 0 → full (symbols_to t i) (values_to t i) ≡ take i t
 unfolding first_to symbols_to values_to full text_to
@@ -71,22 +70,22 @@ abbrev above : ℕ → Bool
 above zero = false
 above (suc v) = true
 
-piece_digit : (d : ℕ) → suc d ≤ highest → piece_of (48 + suc d) ≡ Digit (suc d)
+piece_digit : (d : ℕ) → suc d ≤ highest → piece_of (48 + suc d) ≡ Some (Digit (suc d))
 piece_digit d h =
     let b = 48 + suc d in
     let z : b - 48 ≡ suc d = omega arith in
     cond-false (leb 97 b && leb b 122) _ _ (and_left (leb 97 b) (leb b 122) (lt-leb 97 b (omega arith)))
     ∙ cond-false (eqb b 46) _ _ (ne_eqb b 46 (λ e. omega arith))
     ∙ cond-true (leb 49 b && leb b 57) _ _ (and_from (leb 49 b) (leb b 57) (le-leb 49 b (omega arith)) (le-leb b 57 (omega arith)))
-    ∙ ap Digit z
+    ∙ ap (λ (d : ℕ). Some (Digit d)) z
 
-piece_symbol : (s : ℕ) → s ≤ alphabet → piece_of (byte_of s) ≡ Symbol s
+piece_symbol : (s : ℕ) → s ≤ alphabet → piece_of (byte_of s) ≡ Some (Symbol s)
 piece_symbol zero h = refl
 piece_symbol (suc s) h =
     let b = 96 + suc s in
     let z : b - 96 ≡ suc s = omega arith in
     cond-true (leb 97 b && leb b 122) _ _ (and_from (leb 97 b) (leb b 122) (le-leb 97 b (omega arith)) (le-leb b 122 (omega arith)))
-    ∙ ap Symbol z
+    ∙ ap (λ (s : ℕ). Some (Symbol s)) z
 
 -- the values up to place k
 up_to : List ℕ → ℕ → List ℕ
@@ -121,13 +120,13 @@ front_digit xs rest ss vs zero h z s =
     front_at _ _ _ _ _ _ _ _ (sym (add-zero (length xs))) refl (sym (set-get_or vs (length ss) 0) ∙ ap (set vs (length ss)) z) s
 front_digit xs rest ss vs (suc d) h z s =
     let t = xs ++ ((48 + suc d) ∷ rest) in
-    let m : piece_at t (length xs) ≡ Digit (suc d) = ap piece_of (get_or_at xs (48 + suc d) rest 0 (length xs) refl) ∙ piece_digit d h in
-    front_at _ _ _ _ _ _ _ _ refl (append-nil ss) refl (front_more t (length xs) (Digit (suc d)) ss vs false s m refl)
+    let m : piece_at t (length xs) ≡ Some (Digit (suc d)) = ap piece_of (get_or_at xs (48 + suc d) rest 0 (length xs) refl) ∙ piece_digit d h in
+    front_at _ _ _ _ _ _ _ _ refl (append-nil ss) refl (front_more t (length xs) (Some (Digit (suc d))) ss vs false s m refl)
 
 front_symbol : (xs rest ss vs : List ℕ) (a : Bool) (s : ℕ) → s ≤ alphabet → shut ss (length ss) ≡ false → Front (xs ++ byte_of s ∷ rest) (length xs) ss vs a → Front (xs ++ byte_of s ∷ rest) (length xs + 1) (ss ++ s ∷ []) vs false
 front_symbol xs rest ss vs a s h z q =
-    let m : piece_at (xs ++ byte_of s ∷ rest) (length xs) ≡ Symbol s = ap piece_of (get_or_at xs (byte_of s) rest 0 (length xs) refl) ∙ piece_symbol s h in
-    front_more (xs ++ byte_of s ∷ rest) (length xs) (Symbol s) ss vs a q m z
+    let m : piece_at (xs ++ byte_of s ∷ rest) (length xs) ≡ Some (Symbol s) = ap piece_of (get_or_at xs (byte_of s) rest 0 (length xs) refl) ∙ piece_symbol s h in
+    front_more (xs ++ byte_of s ∷ rest) (length xs) (Some (Symbol s)) ss vs a q m z
 
 module _ (w : Spelled) (v : Valid w) where
   open_at : (k : ℕ) → k < length w.0 → shut (take k w.0) (length (take k w.0)) ≡ false
@@ -192,19 +191,6 @@ written_then_read w v =
 
 -- ---- a pattern of the program keeps the rules
 
-any_take : (n : ℕ) (S : List ℕ) → ((k : ℕ) → n ≤ k → get_or S k 0 ≡ 0) → any_above_zero (take n S) ≡ any_above_zero S
-any_take zero [] f = refl
-any_take (suc n) [] f = refl
-any_take zero (zero ∷ S) f = any_take zero S (λ k h. f (suc k) (omega arith))
-any_take zero (suc x ∷ S) f = absurd (omega (arith, f 0 (omega arith)))
-any_take (suc n) (zero ∷ S) f = any_take n S (λ k h. f (suc k) (omega arith))
-any_take (suc n) (suc x ∷ S) f = refl
-
-pub text_short : (ss vs : List ℕ) (k : ℕ) → length (text_to ss vs k) ≤ 1 + k + k
-unfolding text_to
-text_short ss vs zero = digit_le (get_or vs 0 0)
-text_short ss vs (suc k) = omega (arith, text_short ss vs k, length-append (text_to ss vs k) (byte_of (get_or ss k 0) ∷ digit (get_or vs (suc k) 0)), digit_le (get_or vs (suc k) 0))
-
 pub valid_of : (p : Pattern) → length p.spelling.symbols ≡ longest → length p.row.values ≡ places → Valid (spelled p)
 valid_of p e f =
     let n = p.spelling.len in
@@ -216,7 +202,7 @@ valid_of p e f =
       few = omega (arith, p.spelling.sized.1);
       symbolic = λ k. rw (get k) (p.spelling.symbolic k);
       edged = λ k h q. rw (get k) (p.spelling.edged k h (omega arith));
-      lettered = any_take n S p.spelling.unused ∙ p.spelling.lettered;
+      lettered = sym (above_front n S p.spelling.unused) ∙ p.spelling.lettered;
       wide = f;
       digits = p.row.digits;
       within = λ k h. p.within k (omega arith);

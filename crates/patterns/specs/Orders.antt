@@ -26,7 +26,7 @@ lists_ordering [] (y ∷ ys) = refl
 lists_ordering (x ∷ xs) [] = refl
 lists_ordering (x ∷ xs) (y ∷ ys) = by_first x y (nat_lt x y) (x == y) (nat_lt y x) _ _ refl refl refl (lists_ordering xs ys)
 
-ordering_total : IsTotalOrder ordering
+pub ordering_total : IsTotalOrder ordering
 ordering_total = subst IsTotalOrder (λ i u v. lists_ordering u v i) (lists_total nat_cmp_total)
 
 pub spelling_total : IsTotalOrder (λ (u v : Spelling). ordering (symbols_of u) (symbols_of v))

@@ -1,7 +1,7 @@
 -- What pattern text means, in the words of the subject.
-use Rattle.std.specs.Prelude.{◌≡◌, ℕ, suc, ◌+◌, ◌<◌, false, ◌⊎◌, List, length, slice_index}
+use Rattle.std.specs.Prelude.{◌≡◌, ℕ, suc, ◌+◌, ◌<◌, false, ◌⊎◌, List, length, slice_index, Some, None}
 use Rattle.text.specs.Refusals.{Refused, at_byte}
-use Rattle.patterns.specs.declared.reading.Piece.TheVariants.{Symbol, Digit, Other}
+use Rattle.patterns.specs.declared.reading.Piece.TheVariants.{Symbol, Digit}
 use Rattle.patterns.specs.Spellings.{longest, any_above_zero, Spelled, Valid}
 use Rattle.patterns.specs.Texts.{piece_at, symbols_to, values_to, Reading, spells, refused, reading, text_of}
 
@@ -12,10 +12,10 @@ pub record RoundTrips : Type 0 where
 
 -- why byte i offends
 pub data Cause (text : List ℕ) (i : ℕ) : Type 0 where
-  neither : piece_at text i ≡ Other → Cause text i
-  digit_after_digit : (d e j : ℕ) → i ≡ suc j → piece_at text j ≡ Digit d → piece_at text i ≡ Digit e → Cause text i
-  sixteenth : (s : ℕ) → piece_at text i ≡ Symbol s → length (symbols_to text i) ≡ longest → Cause text i
-  after_edge : (s n : ℕ) → piece_at text i ≡ Symbol s → length (symbols_to text i) ≡ suc (suc n) → slice_index (symbols_to text i) (suc n) ≡ 0 → Cause text i
+  neither : piece_at text i ≡ None → Cause text i
+  digit_after_digit : (d e j : ℕ) → i ≡ suc j → piece_at text j ≡ Some (Digit d) → piece_at text i ≡ Some (Digit e) → Cause text i
+  sixteenth : (s : ℕ) → piece_at text i ≡ Some (Symbol s) → length (symbols_to text i) ≡ longest → Cause text i
+  after_edge : (s n : ℕ) → piece_at text i ≡ Some (Symbol s) → length (symbols_to text i) ≡ suc (suc n) → slice_index (symbols_to text i) (suc n) ≡ 0 → Cause text i
 
 -- a text that is refused, in line 1: at its first offending byte, or one past its end where none offends and no letter or
 -- no digit came

@@ -1,8 +1,8 @@
 -- Pattern text, written and read.
-use Rattle.std.specs.Prelude.{ℕ, zero, suc, ◌+◌, ◌-◌, Bool, true, false, cond, ◌&&◌, ◌||◌, List, [], ◌∷◌, ◌++◌, length, replicate, ◌==◌, nat_le, nat_lt, slice_index, slice_set}
+use Rattle.std.specs.Prelude.{ℕ, zero, suc, ◌+◌, ◌-◌, Bool, true, false, cond, ◌&&◌, ◌||◌, List, [], ◌∷◌, ◌++◌, length, replicate, ◌==◌, nat_le, nat_lt, slice_index, slice_set, Some, None, Option}
 use Rattle.text.specs.Refusals.{Refused, at_byte}
 use Rattle.patterns.specs.declared.reading.Piece.{Piece}
-use Rattle.patterns.specs.declared.reading.Piece.TheVariants.{Symbol, Digit, Other}
+use Rattle.patterns.specs.declared.reading.Piece.TheVariants.{Symbol, Digit}
 use Rattle.patterns.specs.Spellings.{longest, places, any_above_zero, Spelled}
 
 -- ---- writing: the value of place 0, the first symbol, the value of place 1, and so on, with values of 0 left out
@@ -27,30 +27,30 @@ text_of p = text_to p.0 p.1 (length p.0)
 -- ---- reading
 
 -- a small letter or a full stop with its symbol, a digit 1 to 9 with its value, or neither
-abbrev pub piece_of : ℕ → Piece
+abbrev pub piece_of : ℕ → Option Piece
 piece_of b =
-    cond (nat_le 97 b && nat_le b 122) (Symbol (b - 96))
-    (cond (b == 46) (Symbol 0) (cond (nat_le 49 b && nat_le b 57) (Digit (b - 48)) Other))
+    cond (nat_le 97 b && nat_le b 122) (Some (Symbol (b - 96)))
+    (cond (b == 46) (Some (Symbol 0)) (cond (nat_le 49 b && nat_le b 57) (Some (Digit (b - 48))) None))
 
 -- what byte i is, from 0
-abbrev pub piece_at : List ℕ → ℕ → Piece
+abbrev pub piece_at : List ℕ → ℕ → Option Piece
 piece_at text i = piece_of (slice_index text i)
 
-abbrev pub symbol_in : Piece → List ℕ
-symbol_in (Symbol s) = s ∷ []
-symbol_in (Digit d) = []
-symbol_in Other = []
+abbrev pub symbol_in : Option Piece → List ℕ
+symbol_in (Some (Symbol s)) = s ∷ []
+symbol_in (Some (Digit d)) = []
+symbol_in None = []
 
 -- a digit behind n symbols is the value of place n
-abbrev pub with_value : Piece → ℕ → List ℕ → List ℕ
-with_value (Symbol s) n values = values
-with_value (Digit d) n values = slice_set values n d
-with_value Other n values = values
+abbrev pub with_value : Option Piece → ℕ → List ℕ → List ℕ
+with_value (Some (Symbol s)) n values = values
+with_value (Some (Digit d)) n values = slice_set values n d
+with_value None n values = values
 
-abbrev pub is_digit : Piece → Bool
-is_digit (Symbol s) = false
-is_digit (Digit d) = true
-is_digit Other = false
+abbrev pub is_digit : Option Piece → Bool
+is_digit (Some (Symbol s)) = false
+is_digit (Some (Digit d)) = true
+is_digit None = false
 
 -- the symbols among the first i bytes, the values that these give, and whether the last of them is a digit
 unfoldable pub symbols_to : List ℕ → ℕ → List ℕ
@@ -70,10 +70,10 @@ abbrev pub shut : List ℕ → ℕ → Bool
 shut symbols n = nat_le longest n || (nat_lt 1 n && slice_index symbols (n - 1) == 0)
 
 -- whether a piece offends: a symbol that may not follow, a digit after a digit, or neither symbol nor digit
-abbrev pub offends : Piece → Bool → List ℕ → Bool
-offends (Symbol s) after symbols = shut symbols (length symbols)
-offends (Digit d) after symbols = after
-offends Other after symbols = true
+abbrev pub offends : Option Piece → Bool → List ℕ → Bool
+offends (Some (Symbol s)) after symbols = shut symbols (length symbols)
+offends (Some (Digit d)) after symbols = after
+offends None after symbols = true
 
 unfoldable pub offends_at : List ℕ → ℕ → Bool
 offends_at text i = offends (piece_at text i) (after_digit text i) (symbols_to text i)

@@ -1,7 +1,7 @@
 //! A pattern made of a spelling and a row.
 ghost use Rattle.patterns.specs.Views.{symbols_of, MadeOf};
 
-use crate::pattern::{PLACES, Pattern, Row, Spelling};
+use crate::pattern::{Pattern, Row, Spelling};
 use crate::reading::any_above;
 
 impl Pattern {
@@ -9,7 +9,7 @@ impl Pattern {
     pub fn new(spelling: Spelling, row: Row) -> Option<Pattern>
         ensures { MadeOf (symbols_of spelling) row.values result }
     {
-        if !any_above(&row.values) || any_above(&row.values[spelling.len + 1..PLACES]) {
+        if !any_above(&row.values) || any_above(&row.values[spelling.len + 1..]) {
             return None;
         }
         Some(Pattern { spelling, row })

@@ -1,10 +1,7 @@
 //! Spellings are ordered symbol by symbol by number; where one begins another, the shorter comes first.
-ghost use Rattle.std.specs.Prelude.{◌≡◌, Some, refl};
-ghost use Rattle.std.specs.Ordering.{is_eq};
+ghost use Rattle.std.specs.Prelude.{◌≡◌};
 ghost use Rattle.patterns.specs.Order.{ordering, TotalOrder};
 ghost use Rattle.patterns.specs.Views.{symbols_of};
-ghost use Rattle.patterns.specs.Orders.{spelling_total, spelling_equiv};
-ghost use Rattle.std.specs.Cmp.{partial_equiv_from_equiv, partial_order_from_agreeing_total};
 
 use crate::pattern::Spelling;
 use std::cmp::Ordering;
@@ -22,46 +19,6 @@ impl Spelling {
         ensures value { result ≡ ordering (symbols_of self.now) (symbols_of other.now) }
         ensures total { TotalOrder }
     {
-        let mine = &self.symbols[0..self.len];
-        let theirs = &other.symbols[0..other.len];
-        mine.cmp(&theirs)
-    }
-}
-
-impl PartialEq for Spelling {
-    ghost eq = { λ u v. is_eq (ordering (symbols_of u) (symbols_of v)) };
-
-    ghost laws = { partial_equiv_from_equiv spelling_equiv };
-
-    fn eq(&self, other: &Spelling) -> bool {
-        self.compare(other) == Ordering::Equal
-    }
-}
-
-impl Eq for Spelling {
-    ghost laws = { spelling_equiv };
-}
-
-impl PartialOrd for Spelling {
-    ghost partial_cmp = { λ u v. Some (ordering (symbols_of u) (symbols_of v)) };
-
-    ghost laws = { partial_order_from_agreeing_total (λ u v. ordering (symbols_of u) (symbols_of v)) spelling_total (λ _ _. refl) (λ _ _. refl) };
-
-    fn partial_cmp(&self, other: &Spelling) -> Option<Ordering> {
-        Some(self.compare(other))
-    }
-}
-
-impl Ord for Spelling {
-    ghost cmp = { λ u v. ordering (symbols_of u) (symbols_of v) };
-
-    ghost total = { spelling_total };
-
-    ghost matches_partial_cmp = { λ _ _. refl };
-
-    ghost matches_eq = { λ _ _. refl };
-
-    fn cmp(&self, other: &Spelling) -> Ordering {
-        self.compare(other)
+        self.cmp(other)
     }
 }

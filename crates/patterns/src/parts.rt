@@ -27,8 +27,8 @@ fn symbols_from(word: &Word, start: usize, len: usize) -> [u8; LONGEST]
     ensures unused { (k : ℕ) → len ≤ k → slice_index result k ≡ 0 }
 {
     let mut symbols = [0; LONGEST];
-    for k in 0..len {
-        symbols[k] = symbol_at(word, start + k);
+    for (k, symbol) in symbols[..len].iter_mut().enumerate() {
+        *symbol = symbol_at(word, start + k);
     }
     symbols
 }

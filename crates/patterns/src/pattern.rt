@@ -10,11 +10,13 @@ pub const LONGEST: usize = 15;
 pub const PLACES: usize = 16;
 
 /// A run of symbols as it may stand in a word: 1 to 15 of them, at least one a letter (1 for a to 26 for z), and the edge
-/// of a word (0) only first or last. `symbols` holds `len` of them, and then only 0.
-#[derive(Clone, Copy)]
+/// of a word (0) only first or last. `symbols` holds `len` of them, and then only 0, and `len` stands behind, so that the
+/// derived order is that of the symbols: where one spelling begins another, the shorter comes first.
+#[derive(Clone, Copy, Debug, PartialEq, Eq, PartialOrd, Ord)]
 pub struct Spelling {
-    pub len: usize,
+    // No heap: the symbols stand in an array, and how many they are beside it.
     pub symbols: [u8; LONGEST],
+    pub len: usize,
     ghost full: { length symbols ≡ longest },
     ghost sized: { (1 ≤ len) × (len ≤ longest) },
     ghost symbolic: { (k : ℕ) → slice_index symbols k ≤ alphabet },
@@ -24,7 +26,7 @@ pub struct Spelling {
 }
 
 /// A value from 0 to 9 for each of the places 0 to 15. Place k lies behind the first k symbols of a spelling.
-#[derive(Clone, Copy)]
+#[derive(Clone, Copy, Debug, PartialEq, Eq)]
 pub struct Row {
     pub values: [u8; PLACES],
     ghost full: { length values ≡ places },
@@ -32,7 +34,7 @@ pub struct Row {
 }
 
 /// A spelling with a row that has some value above 0, and none beyond the spelling's last place.
-#[derive(Clone, Copy)]
+#[derive(Clone, Copy, Debug, PartialEq, Eq)]
 pub struct Pattern {
     pub spelling: Spelling,
     pub row: Row,

@@ -1,7 +1,7 @@
 //! Reading a pattern text: the value of place 0, the first symbol, the value of place 1, and so on, with values of 0 left out.
-ghost use Rattle.std.specs.Prelude.{◌≡◌, ◌≤◌, Bool};
+ghost use Rattle.std.specs.Prelude.{◌≡◌, length};
 ghost use Rattle.text.specs.Refusals.{six_of};
-ghost use Rattle.patterns.specs.Spellings.{longest, any_above_zero};
+ghost use Rattle.patterns.specs.Spellings.{any_above_zero};
 ghost use Rattle.patterns.specs.Texts.{piece_of, shut, reading};
 ghost use Rattle.patterns.specs.Faults.{pattern_refused};
 ghost use Rattle.patterns.specs.Promises.{Judged};
@@ -10,12 +10,11 @@ ghost use Rattle.patterns.specs.Views.{answer};
 use crate::pattern::{LONGEST, PLACES, Pattern, Row, Spelling};
 use text::refusal::{Reason, Refusal};
 
-/// What a byte of a pattern text is: a symbol, the digit of a value above 0, or neither.
+/// What a byte of a pattern text is: a symbol, or the digit of a value above 0.
 #[derive(Clone, Copy)]
 pub enum Piece {
     Symbol(u8),
     Digit(u8),
-    Other,
 }
 
 /// A text that is no pattern text, and the column at which it is refused.
@@ -32,34 +31,28 @@ impl From<BadPattern> for Refusal {
     }
 }
 
-fn classify(b: u8) -> Piece
+fn classify(b: u8) -> Option<Piece>
     ensures { result ≡ piece_of b }
 {
     match b {
-        b'a'..=b'z' => Piece::Symbol(b - 96),
-        b'.' => Piece::Symbol(0),
-        b'1'..=b'9' => Piece::Digit(b - 48),
-        _ => Piece::Other,
+        b'a'..=b'z' => Some(Piece::Symbol(b - b'a' + 1)),
+        b'.' => Some(Piece::Symbol(0)),
+        b'1'..=b'9' => Some(Piece::Digit(b - b'0')),
+        _ => None,
     }
 }
 
 pub(crate) fn any_above(numbers: &[u8]) -> bool
     ensures { result ≡ any_above_zero numbers.now }
 {
-    for n in numbers {
-        if *n > 0 {
-            return true;
-        }
-    }
-    false
+    numbers.iter().any(|n| *n > 0)
 }
 
 // Whether no symbol may follow: fifteen came, or an edge that is not first.
-fn is_shut(symbols: &[u8; LONGEST], len: usize) -> bool
-    requires { len ≤ longest }
-    ensures { result ≡ shut symbols.now len }
+fn is_shut(symbols: &[u8]) -> bool
+    ensures { result ≡ shut symbols.now (length symbols.now) }
 {
-    len >= LONGEST || (len > 1 && symbols[len - 1] == 0)
+    symbols.len() >= LONGEST || matches!(symbols, [_, .., 0])
 }
 
 impl Pattern {
@@ -68,29 +61,27 @@ impl Pattern {
         ensures value { answer result ≡ reading text.now }
         ensures meaning { Judged text.now (answer result) }
     {
+        // No heap: the symbols and the values stand in arrays, and how many symbols came beside them.
         let mut symbols = [0; LONGEST];
         let mut values = [0; PLACES];
         let mut len = 0;
-        let mut after_digit = false;
         for (i, b) in text.iter().enumerate() {
-            let column = i + 1;
-            match classify(*b) {
+            let fault = BadPattern { column: i + 1 };
+            match classify(*b).ok_or(fault)? {
                 Piece::Symbol(s) => {
-                    if is_shut(&symbols, len) {
-                        return Err(BadPattern { column });
+                    if is_shut(&symbols[..len]) {
+                        return Err(fault);
                     }
                     symbols[len] = s;
                     len += 1;
-                    after_digit = false;
                 }
                 Piece::Digit(d) => {
+                    let after_digit = values[len] > 0;
                     if after_digit {
-                        return Err(BadPattern { column });
+                        return Err(fault);
                     }
                     values[len] = d;
-                    after_digit = true;
                 }
-                Piece::Other => return Err(BadPattern { column }),
             }
         }
         if !any_above(&symbols) || !any_above(&values) {

@@ -19,8 +19,8 @@ impl Row {
         ensures { result.values ≡ greater self.now.values other.now.values }
     {
         let mut values = self.values;
-        for k in 0..PLACES {
-            values[k] = values[k].max(other.values[k]);
+        for (k, value) in values.iter_mut().enumerate() {
+            *value = (*value).max(other.values[k]);
         }
         Row { values }
     }

@@ -10,27 +10,22 @@ ghost use Rattle.patterns.specs.Views.{spelled};
 use crate::pattern::Pattern;
 use text::memory::Short;
 
-fn width(value: u8) -> usize
-    ensures { result ≡ length (digit value) }
-{
-    if value > 0 { 1 } else { 0 }
-}
-
 fn symbol_byte(symbol: u8) -> u8
     requires { symbol ≤ alphabet }
     ensures { result ≡ byte_of symbol }
 {
-    if symbol > 0 { 96 + symbol } else { 46 }
+    if symbol > 0 { b'a' - 1 + symbol } else { b'.' }
 }
 
 // Writes a value above 0 at `at`, and answers where the text goes on.
+// The place is a number, since a value of 0 takes no byte: no iterator over the lent bytes says that more plainly.
 fn put_digit(memory: &mut [u8], at: usize, value: u8) -> usize
     requires { (value ≤ highest) × (at + length (digit value) ≤ length memory.old) }
     ensures place { result ≡ at + length (digit value) }
     ensures left { memory.new ≡ with_digit memory.old at value }
 {
     if value > 0 {
-        memory[at] = 48 + value;
+        memory[at] = b'0' + value;
         at + 1
     } else {
         at
@@ -42,11 +37,7 @@ impl Pattern {
     pub fn text_len(&self) -> usize
         ensures { result ≡ length (text_of (spelled self.now)) }
     {
-        let mut n = width(self.row.values[0]);
-        for k in 0..self.spelling.len {
-            n += 1 + width(self.row.values[k + 1]);
-        }
-        n
+        self.spelling.len + self.row.values.iter().filter(|value| **value > 0).count()
     }
 
     /// Writes the pattern's text into lent memory, and answers its length.
@@ -60,9 +51,9 @@ impl Pattern {
             return Err(Short);
         }
         let mut at = put_digit(memory, 0, self.row.values[0]);
-        for k in 0..self.spelling.len {
-            memory[at] = symbol_byte(self.spelling.symbols[k]);
-            at = put_digit(memory, at + 1, self.row.values[k + 1]);
+        for (symbol, value) in self.spelling.symbols().iter().zip(&self.row.values[1..]) {
+            memory[at] = symbol_byte(*symbol);
+            at = put_digit(memory, at + 1, *value);
         }
         Ok(n)
     }

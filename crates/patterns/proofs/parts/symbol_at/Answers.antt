@@ -1,5 +1,5 @@
-use Rattle.std.proofs.Common.{sym, inl, inr, arith}
-use Rattle.patterns.proofs.Cutting.{padded_edge, padded_at}
+use Rattle.std.proofs.Common.{sym, inl, inr}
+use Rattle.patterns.proofs.Cutting.{padded_edge}
 use Rattle.patterns.proofs.parts.symbol_at.Goals as goal
 use Rattle.patterns.proofs.parts.symbol_at.Goals.{then-at-lt1-via-then-at-lt1, then-at-lt1-via-else-at-lt1+then-at-word}
 
@@ -9,6 +9,3 @@ returns-then-at-lt1 c =
       | then-at-lt1-via-then-at-lt1 w ↦ inl w.if-at-lt1.true
       | then-at-lt1-via-else-at-lt1+then-at-word w ↦ inr w.if-at-word.true
     ]))
-
-pub returns : goal.returns
-returns c = padded_at c.args.word.now c.args.at (omega arith) (omega arith)

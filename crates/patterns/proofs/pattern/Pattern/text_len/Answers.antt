@@ -1,16 +1,17 @@
-use Rattle.std.proofs.Common.{◌+◌, get_or, arith}
-use Rattle.patterns.specs.Texts.{text_to}
+use Rattle.std.proofs.Common.{rules, ◌≡◌, ℕ, ◌+◌, ltb, length, ap, ◌∙◌, arith}
+use borrow.Author.Tests.{tests}
+use Rattle.std.specs.List.{filter}
+use Rattle.std.proofs.lemmas.Iterator.{YieldsList-from_slice}
+use Rattle.std.proofs.lemmas.Iterator.Consumers.{YieldsList-from_filter, count_from_yields_List}
 use Rattle.patterns.specs.Views.{symbols_of}
-use Rattle.patterns.proofs.Bytes.{len_more, digit_le}
+use Rattle.patterns.proofs.Bytes.{text_counted, symbols_length}
 use Rattle.patterns.proofs.pattern.Pattern.text_len.Goals as goal
 
-pub loop-k-init : goal.loop-k-init
-unfolding text_to
-loop-k-init c = (c.width-n.ensures, omega (arith, c.width-n.ensures, digit_le (get_or c.args.self.now.row.values 0 0)))
-
-pub loop-k-preserved : goal.loop-k-preserved
-loop-k-preserved c =
-    let p = c.args.self.now in
-    let e = len_more (symbols_of p.spelling) p.row.values c.loop-k.k in
-    let d = digit_le (get_or p.row.values (c.loop-k.k + 1) 0) in
-    (omega (arith, e, c.width.ensures), omega (arith, e, d, c.width.ensures))
+pub returns : goal.returns
+returns c =
+    let s = c.args.self.now.spelling in
+    let r = c.args.self.now.row in
+    let e : c.count.result ≡ length (filter (λ v. ltb 0 v) r.values) =
+    count_from_yields_List c.filter.result c.count.result c.count.ensures.ran (YieldsList-from_filter _ (λ v. ltb 0 v) (YieldsList-from_slice r.values (cc)) c.filter.ensures.closure (λ x b q k. search (rules, tests))) in
+    ap (λ (x : ℕ). s.len + x) e
+    ∙ text_counted (symbols_of s) r.values s.len (symbols_length s.len s.symbols s.sized.1 s.full) (omega (arith, r.full, s.sized)) c.args.self.now.within
