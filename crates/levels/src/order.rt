@@ -1,6 +1,6 @@
 //! The order of the passes of a level.
 ghost use Rattle.std.specs.Prelude.{◌≡◌, ◌≤◌, slice_index};
-ghost use Rattle.levels.specs.Ranges.{longest};
+ghost use Rattle.patterns.specs.Spellings.{longest};
 ghost use Rattle.levels.specs.Order.{places, OrderOfPasses};
 ghost use Rattle.levels.specs.Views.{PassAt};
 
