@@ -15,7 +15,7 @@ loop-i-preserved g c =
     let w = headword c.args.word.now in
     let i = c.loop-i.i in
     let v = c.from.result in
-    let e : v ≡ value b w i % 2 = c.from.ensures ∙ ap (λ (x : ℕ). x % 2) (c.values_of-values.ensures.value i) in
+    let e : v ≡ value b w i % 2 = c.from.ensures ∙ ap (λ (x : ℕ). x % 2) (c.at.ensures ∙ c.values_of-values.ensures.value i) in
     setting_more (is_given b w) c.args.bounds.left c.saturating_sub-i-end.result i c.loop-i.given v c.loop-i-test.true (omega (arith, c.args.word.now.sized.1)) (omega arith)
     (ap (λ (x : ℕ). one (eqb x 1)) (sym e) ∙ digit v (omega arith)) c.loop-i.invariant
 
