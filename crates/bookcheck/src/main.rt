@@ -123,9 +123,8 @@ impl<'a> Case<'a> {
 
     fn tell_book<B: ReadingBook>(&self, heap: Global, book: &B) -> anyhow::Result<String> {
         let mut told = String::new(heap);
-        for spelling in successors(book.least(), |spelling| book.least_after(spelling)).take(
-            book.count(),
-        ) {
+        let held = successors(book.least(), |spelling| book.least_after(spelling));
+        for spelling in held.take(book.count()) {
             tell_pattern(&mut told, spelling, book.row(&spelling))?;
         }
         let values = values_of(book, &self.word);
