@@ -28,6 +28,7 @@ impl Settings {
         ensures pass { PassAt self.now.lo self.now.hi done result }
         ensures order { OrderOfPasses }
     {
+        // As a chain of `flat_map`, `map` and `nth` it gets no proof that each place may be asked for.
         let mut before = done;
         for length in self.lo..=self.hi {
             if before <= length {
