@@ -182,7 +182,7 @@ module _ (b : Book) (w : Headword) (s n k : ℕ) where
       both (p ∷ c) x y = (entry_below p x.0 y.0, both c x.1 y.1)
 
 -- the loop over the lengths of the parts: one part more
-abbrev PartsTo : Book → Headword → ℕ → ℕ → List ℕ → Type 0
+abbrev pub PartsTo : Book → Headword → ℕ → ℕ → List ℕ → Type 0
 PartsTo b w s n row = (k : ℕ) → get_or row k 0 ≡ greatest (part_gives b w s k) (numbers 1 n)
 
 pub parts_more : (b : Book) (w : Headword) (s m : ℕ) (old new : List ℕ) → 1 ≤ m → ((k : ℕ) → get_or new k 0 ≡ max (get_or old k 0) (part_gives b w s k m)) → PartsTo b w s (m - 1) old → PartsTo b w s (m + 1 - 1) new

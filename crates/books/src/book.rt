@@ -44,7 +44,7 @@ pub trait ReadingBook {
         ensures { (k : ℕ) → slice_index result.values k ≡ given_at (held self.now) (headword word.now) start most k }
     {
         let mut row = Row::none();
-        for len in 1..most.min(LONGEST) + 1 {
+        for len in 1..=most.min(LONGEST) {
             if let Some(part) = Spelling::of_part(word, start, len) {
                 row = row.greater(&self.row(&part));
             }

@@ -156,9 +156,6 @@ pub record Setting (g : ℕ → Bool) (a e i bits : ℕ) : Type 0 where
   pub below : bits < 2 ^ i
   pub left : bits + kept g i (e - i) ≡ kept g a (e - a)
 
-pub setting_none : (g : ℕ → Bool) (a e : ℕ) → Setting g a e a 0
-setting_none g a e = record { below = pow_pos a; left = zero-add (kept g a (e - a)) }
-
 pub setting_more : (g : ℕ → Bool) (a e i bits v : ℕ) → i < e → i < 63 → v < 2 → one (g i) ≡ v → Setting g a e i bits → Setting g a e (i + 1) (bit_or bits ((v * 2 ^ i) % 2 ^ 64))
 setting_more g a e i bits v h k o d s =
     let x : (v * 2 ^ i) % 2 ^ 64 ≡ v * 2 ^ i = shl_exact 1 i 64 o (omega arith) in
@@ -177,8 +174,3 @@ setting_more g a e i bits v h k o d s =
     scaled zero n l = omega (arith, zero-mul n)
     scaled (suc zero) n l = omega (arith, one-mul n)
     scaled (suc (suc v)) n l = absurd (omega arith)
-
-pub setting_all : (g : ℕ → Bool) (a e i bits : ℕ) → e ≤ i → Setting g a e i bits → bits ≡ kept g a (e - a)
-setting_all g a e i bits h s =
-    let n : e - i ≡ 0 = omega arith in
-    sym (add-zero bits) ∙ ap (λ (j : ℕ). bits + kept g i j) (sym n) ∙ s.left

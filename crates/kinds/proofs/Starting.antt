@@ -1,33 +1,44 @@
 -- The values of a word, raised start by start, are those of the maximum rule.
-use Rattle.std.proofs.Common.{◌≡◌, ℕ, suc, ◌+◌, ◌-◌, ◌<◌, ◌≤◌, max, Bool, true, cond, ◌&&◌, ltb, leb, ◌⊎◌, List, [], ◌∷◌, length, get_or, sym, refl, ap, ◌∙◌, inl, inr, ⊎_elim, arith}
-use Rattle.std.proofs.lemmas.List.{get_or_past}
-use Rattle.std.proofs.lemmas.Bool.{cases_lt, and_parts, and_from, leb-true, le-leb, lt-leb, lt-ltb, le-ltb, cond-true, cond-false, cond_both}
+use Rattle.std.proofs.Common.{◌≡◌, ℕ, zero, suc, ◌+◌, ◌-◌, ◌<◌, ◌≤◌, max, true, cond, ◌&&◌, leb, ◌⊎◌, List, [], ◌∷◌, ◌++◌, length, get_or, take, drop, sym, refl, ap, ◌∙◌, inl, inr, ⊎_elim, arith}
+use Rattle.std.proofs.lemmas.Bool.{cases_lt, and_parts, and_from, leb-true, le-leb, lt-leb, cond-true, cond-false, cond_both}
+use Rattle.std.proofs.lemmas.Bool.Decides.{nat_tests}
 use Rattle.std.proofs.ByRecursion.{all-has, all_has_itself}
 use Rattle.std.specs.List.{ContainsAt as Has, AllByRecursion}
+use borrow.Rule.Slice.PartMut.{put_mid}
 use Rattle.words.specs.Counting.{numbers}
 use Rattle.words.specs.Words.{Headword}
-use Rattle.patterns.specs.Spellings.{Spelled, Valid, longest}
+use Rattle.patterns.specs.Spellings.{Spelled, Valid, longest, greater}
+use Rattle.patterns.proofs.Rowing.{get_or_greater}
 use Rattle.books.specs.Books.{Book, Sound}
 use Rattle.books.specs.Rule.{greatest, matches, gives_by, gives, value, given_at}
 use Rattle.books.proofs.Maxima.{greatest_le, greatest_each, numbers_le, numbers_at, numbers_more}
 use Rattle.books.proofs.Ruling.{test_match, gives_most, above_some}
 
--- what a row whose place 0 is gap s gives gap q, by its first k places and by all
-abbrev pub first_give : List ℕ → ℕ → ℕ → ℕ → ℕ
-first_give row s k q = cond (leb s q && ltb q (s + k)) (get_or row (q - s) 0) 0
+-- ---- a row lifts the gaps from s on
 
-pub lifted : (row : List ℕ) (s k q : ℕ) → length row ≤ k → first_give row s k q ≡ cond (leb s q) (get_or row (q - s) 0) 0
-lifted row s k q h =
-    ⊎_elim
-    (λ (l : q < s). cond-false (leb s q && ltb q (s + k)) _ _ (ap (λ (b : Bool). b && ltb q (s + k)) (lt-leb s q l)) ∙ sym (cond-false (leb s q) _ _ (lt-leb s q l)))
-    (λ (l : s ≤ q).
-    ap (λ (b : Bool). cond (b && ltb q (s + k)) (get_or row (q - s) 0) 0) (le-leb s q l)
-    ∙ ⊎_elim
-    (λ (m : q < s + k). cond-true (ltb q (s + k)) _ _ (lt-ltb q (s + k) m))
-    (λ (m : s + k ≤ q). cond-false (ltb q (s + k)) _ _ (le-ltb q (s + k) m) ∙ sym (get_or_past row (q - s) 0 (omega arith)))
-    (cases_lt q (s + k))
-    ∙ sym (cond-true (leb s q) _ _ (le-leb s q l)))
-    (cases_lt q s)
+lifts_first : (gaps row : List ℕ) → length row ≤ length gaps → greater (take (length row) gaps) row ++ drop (length row) gaps ≡ greater gaps row
+lifts_first [] [] h = refl
+lifts_first [] (y ∷ row) h = absurd (omega arith)
+lifts_first (x ∷ gaps) [] h = refl
+lifts_first (x ∷ gaps) (y ∷ row) h = ap (λ (zs : List ℕ). max x y ∷ zs) (lifts_first gaps row (omega arith))
+
+-- what a row whose place 0 is gap s gives gap q
+abbrev pub gives_gap : List ℕ → ℕ → ℕ → ℕ
+gives_gap row s q = cond (leb s q) (get_or row (q - s) 0) 0
+
+gives_next : (row : List ℕ) (s q : ℕ) → gives_gap row s q ≡ gives_gap row (suc s) (suc q)
+gives_next row s q = let e : suc q - suc s ≡ q - s = omega arith in grind (arith, nat_tests)
+
+pub lifts : (s : ℕ) (gaps row : List ℕ) (q : ℕ) → s + length row ≤ length gaps → get_or (put_mid s (length row) gaps (greater (take (length row) (drop s gaps)) row)) q 0 ≡ max (get_or gaps q 0) (gives_gap row s q)
+lifts zero gaps row q h =
+    let e : q - 0 ≡ q = omega arith in
+    ap (λ (xs : List ℕ). get_or xs q 0) (lifts_first gaps row (omega arith))
+    ∙ get_or_greater gaps row q
+    ∙ ap (max (get_or gaps q 0)) (sym (cond-true (leb 0 q) (get_or row (q - 0) 0) 0 (le-leb 0 q (omega arith)) ∙ ap (λ (k : ℕ). get_or row k 0) e))
+lifts (suc s) [] row q h = absurd (omega arith)
+lifts (suc s) (x ∷ gaps) row zero h = let e = cond-false (leb (suc s) 0) (get_or row (0 - suc s) 0) 0 (lt-leb (suc s) 0 (omega arith)) in omega arith
+lifts (suc s) (x ∷ gaps) row (suc q) h =
+    lifts s gaps row q (omega arith) ∙ ap (max (get_or gaps q 0)) (gives_next row s q)
 
 -- what start s gives gap q
 abbrev pub start_gives : Book → Headword → ℕ → ℕ → ℕ
@@ -102,11 +113,11 @@ module _ (b : Book) (w : Headword) (i : ℕ) where
 abbrev pub StartsTo : Book → Headword → ℕ → List ℕ → Type 0
 StartsTo b w n gaps = (q : ℕ) → get_or gaps q 0 ≡ greatest (start_gives b w q) (numbers 0 n)
 
-pub starts_more : (b : Book) (w : Headword) (s : ℕ) (old new row : List ℕ) → ((k : ℕ) → get_or row k 0 ≡ given_at b w s longest k) → ((q : ℕ) → get_or new q 0 ≡ max (get_or old q 0) (cond (leb s q) (get_or row (q - s) 0) 0)) → StartsTo b w s old → StartsTo b w (s + 1) new
+pub starts_more : (b : Book) (w : Headword) (s : ℕ) (old new row : List ℕ) → ((k : ℕ) → get_or row k 0 ≡ given_at b w s longest k) → ((q : ℕ) → get_or new q 0 ≡ max (get_or old q 0) (gives_gap row s q)) → StartsTo b w s old → StartsTo b w (s + 1) new
 starts_more b w s old new row e f i q =
     let x = f q in
     let y = i q in
-    let z : cond (leb s q) (get_or row (q - s) 0) 0 ≡ start_gives b w q s = ap (λ (v : ℕ). cond (leb s q) v 0) (e (q - s)) in
+    let z : gives_gap row s q ≡ start_gives b w q s = ap (λ (v : ℕ). cond (leb s q) v 0) (e (q - s)) in
     let v = numbers_more (start_gives b w q) 0 s in
     let o : 0 + s ≡ s = omega arith in
     let n : s + 1 ≡ suc s = omega arith in

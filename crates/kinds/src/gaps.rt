@@ -1,5 +1,5 @@
 //! The type of the values of a word.
-ghost use Rattle.std.specs.Prelude.{◌≡◌, length};
+ghost use Rattle.std.specs.Prelude.{◌≡◌, ◌+◌, ◌<◌, length, slice_index};
 ghost use Rattle.kinds.specs.Gaps.{gap_count};
 
 /// The gaps that a row may reach in a padded word.
@@ -10,4 +10,14 @@ pub const GAPS: usize = 65;
 pub struct Values {
     pub gaps: [u8; GAPS],
     ghost full: { length gaps ≡ gap_count },
+}
+
+impl Values {
+    /// The value of a position.
+    pub fn at(&self, position: usize) -> u8
+        requires { position + 1 < gap_count }
+        ensures { result ≡ slice_index self.now.gaps (position + 1) }
+    {
+        self.gaps[position + 1]
+    }
 }

@@ -1,7 +1,7 @@
 //! The values of a word under a book.
 ghost use Rattle.std.specs.Prelude.{◌≡◌, ℕ, ◌+◌, ◌-◌, ◌≤◌, max, length, if◌then◌else◌, nat_le, slice_index};
 ghost use Rattle.words.specs.Views.{headword};
-ghost use Rattle.patterns.specs.Spellings.{places};
+ghost use Rattle.patterns.specs.Spellings.{places, greater};
 ghost use Rattle.books.specs.Rule.{Greatest, value, MaximumRule};
 
 use crate::gaps::{GAPS, Values};
@@ -9,13 +9,14 @@ use books::book::ReadingBook;
 use patterns::pattern::{LONGEST, PLACES, Row};
 use words::word::Word;
 
-// Raises each gap to the value that a row gives it whose place 0 is gap `start`.
-fn lift(gaps: &mut [u8], start: usize, row: &Row)
-    requires { start + places ≤ length gaps.old }
-    ensures { (q : ℕ) → slice_index gaps.new q ≡ max (slice_index gaps.old q) (if nat_le start q then slice_index row.now.values (q - start) else 0) }
+// Raises each gap to the value that a row gives it.
+fn lift(gaps: &mut [u8], row: &Row)
+    requires { length gaps.old ≡ places }
+    ensures { gaps.new ≡ greater gaps.old row.now.values }
 {
-    for k in 0..PLACES {
-        gaps[start + k] = gaps[start + k].max(row.values[k]);
+    // Once a `zip` of the gaps is over, only their number is known.
+    for (k, gap) in gaps.iter_mut().enumerate() {
+        *gap = (*gap).max(row.values[k]);
     }
 }
 
@@ -29,7 +30,7 @@ pub fn values_of<B: ReadingBook>(book: &B, word: &Word) -> Values
     let mut gaps = [0; GAPS];
     for start in 0..word.len + 2 {
         let row = book.row_at(word, start, LONGEST);
-        lift(&mut gaps, start, &row);
+        lift(&mut gaps[start..start + PLACES], &row);
     }
     Values { gaps }
 }

@@ -2,7 +2,8 @@
 ghost use Rattle.std.specs.Prelude.{◌≡◌, MatchResult};
 ghost use Rattle.levels.specs.Ranges.{InRange};
 
-use crate::settings::{HEAVIEST, HIGHEST, LONGEST, Settings};
+use crate::settings::{HEAVIEST, HIGHEST, Settings};
+use patterns::pattern::LONGEST;
 use words::measure::OutOfRange;
 
 impl Settings {

@@ -1,6 +1,6 @@
 //! The order of the passes of a level.
 ghost use Rattle.std.specs.Prelude.{◌≡◌, ◌≤◌, slice_index};
-ghost use Rattle.levels.specs.Ranges.{longest};
+ghost use Rattle.patterns.specs.Spellings.{longest};
 ghost use Rattle.levels.specs.Order.{places, OrderOfPasses};
 ghost use Rattle.levels.specs.Views.{PassAt};
 
@@ -28,6 +28,7 @@ impl Settings {
         ensures pass { PassAt self.now.lo self.now.hi done result }
         ensures order { OrderOfPasses }
     {
+        // As a chain of `flat_map`, `map` and `nth` it gets no proof that each place may be asked for.
         let mut before = done;
         for length in self.lo..=self.hi {
             if before <= length {

@@ -1,9 +1,7 @@
 //! The types that keep the ranges of a level: every value of them obeys its ghost fields, wherever it is made.
 ghost use Rattle.std.specs.Prelude.{◌≤◌};
-ghost use Rattle.levels.specs.Ranges.{longest, heaviest, highest};
-
-/// The most symbols of a candidate.
-pub const LONGEST: usize = 15;
+ghost use Rattle.patterns.specs.Spellings.{longest};
+ghost use Rattle.levels.specs.Ranges.{heaviest, highest};
 
 /// The greatest weight.
 pub const HEAVIEST: u64 = 1_000;

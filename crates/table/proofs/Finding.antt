@@ -1,21 +1,22 @@
 -- Where a spelling stands among the rows in use, and what its place tells of the book that they hold.
-use Rattle.std.proofs.Common.{◌≡◌, ℕ, zero, suc, ◌+◌, ◌-◌, ◌<◌, ◌≤◌, true, false, List, [], ◌∷◌, map, length, get_or, take, drop, Ok, Err, sym, ap, ◌∙◌, subst, ap₂, ⊎_elim, arith}
-use Rattle.std.specs.List.{AllByRecursion}
-use Rattle.std.proofs.lemmas.List.{drop_more, drop_all, drop-take, drop-map, get_or-take, get_or-map, take-map, length-map, length-take-le}
-use Rattle.std.proofs.lemmas.Bool.{cases_lt, true≢false, false≢true}
+use Rattle.std.proofs.Common.{◌≡◌, ℕ, zero, suc, ◌+◌, ◌-◌, ◌<◌, ◌≤◌, true, List, [], ◌∷◌, map, length, get_or, take, drop, Ok, Err, Result, Ordering, Less, Equal, Greater, sym, refl, ap, ◌∙◌, subst, ⊎_elim, arith}
+use Rattle.std.specs.Ordering.{is_lt, ordering_index, ordering_reverse}
+use Rattle.std.specs.List.{AllByRecursion, HoldsAt}
+use Rattle.std.specs.List.Sorted.{IsNonDecreasingBy, IsBinarySearchResult, IsSearchInRange}
+use Rattle.std.proofs.ByRecursion.{All-get_or}
+use Rattle.std.proofs.lemmas.List.{drop_more, drop_all, drop-take, drop-map, get_or-take, get_or-map, length-map, length-take-le}
+use Rattle.std.proofs.lemmas.Bool.{cases_lt, cases_eq, false≢true}
 use Rattle.patterns.specs.declared.pattern.Pattern.{Pattern}
-use Rattle.patterns.specs.Order.{before}
+use Rattle.patterns.specs.Order.{ordering, before}
 use Rattle.patterns.specs.Spellings.{Spelled}
 use Rattle.patterns.specs.Views.{symbols_of, spelled}
-use Rattle.books.specs.Maps.{Ascending, same}
+use Rattle.patterns.proofs.Ordered.{total_order}
+use Rattle.books.specs.Maps.{Ascending}
 use Rattle.books.specs.Books.{Book}
-use Rattle.books.proofs.Mapping.{Stand, first, equal, later, stand, same_refl, same_eq, along}
+use Rattle.books.proofs.Mapping.{Stand, first, equal, later, stand, along}
 use Rattle.table.specs.declared.table.Table.{Table}
-use Rattle.table.specs.Rows.{key_at, InOrder}
-use Rattle.table.specs.Places.{PlaceOf, Around, Found}
-use Rattle.table.specs.Soundness.{ascends_of}
+use Rattle.table.specs.Places.{Around, Found}
 use Rattle.table.specs.Views.{rows_of, held_by}
-use Rattle.table.proofs.Ascents.{key_is}
 
 -- ---- in a book
 
@@ -27,22 +28,104 @@ drop_ascends (suc i) (e ∷ b) a = drop_ascends i b a.1
 abbrev key_in : Book → ℕ → List ℕ
 key_in b i = (get_or b i ([], [])).0
 
+-- an entry comes before each that follows it
+pair : (b : Book) → Ascending b → (i j : ℕ) → i < j → j < length b → before (key_in b i) (key_in b j) ≡ true
+pair [] a i j h l = absurd (omega arith)
+pair (e ∷ b) a i zero h l = absurd (omega arith)
+pair (e ∷ b) a zero (suc j) h l = All-get_or (λ f. before e.0 f.0 ≡ true) b j ([], []) (omega arith) a.0
+pair (e ∷ b) a (suc i) (suc j) h l = pair b a.1 i j (omega arith) (omega arith)
+
+-- the first i entries, by each of them
+front_all : (u : List ℕ) (b : Book) (i : ℕ) → i ≤ length b → ((k : ℕ) → k < i → before (key_in b k) u ≡ true) → AllByRecursion (λ e. before e.0 u ≡ true) (take i b)
+front_all u b zero l f = tt
+front_all u [] (suc i) l f = tt
+front_all u (e ∷ b) (suc i) l f = (f 0 (omega arith), front_all u b i (omega arith) (λ k h. f (suc k) (omega arith)))
+
 module _ (b : Book) (u : List ℕ) (i : ℕ) (a : Ascending b) where
   -- the entries behind entry i come after it
   behind : i < length b → AllByRecursion (λ e. before (key_in b i) e.0 ≡ true) (drop (i + 1) b)
   behind l = (subst Ascending (drop_more b i ([], []) l) (drop_ascends i b a)).0
 
-  pub around_held : i < length b → AllByRecursion (λ e. before e.0 u ≡ true) (take i b) → key_in b i ≡ u → Around b u i (i + 1)
-  around_held l f k = record { front = f; back = subst (λ (v : List ℕ). AllByRecursion (λ e. before v e.0 ≡ true) (drop (i + 1) b)) k (behind l) }
+  around_held : i < length b → key_in b i ≡ u → Around b u i (i + 1)
+  around_held l k = record {
+    front = front_all u b i (omega arith) (λ j h. subst (λ (v : List ℕ). before (key_in b j) v ≡ true) k (pair b a j i h l));
+    back = subst (λ (v : List ℕ). AllByRecursion (λ e. before v e.0 ≡ true) (drop (i + 1) b)) k (behind l);
+  }
 
-  pub around_other : AllByRecursion (λ e. before e.0 u ≡ true) (take i b) → (i < length b → before u (key_in b i) ≡ true) → Around b u i i
-  around_other f h = record {
-    front = f;
+  around_other : i ≤ length b → ((k : ℕ) → k < i → before (key_in b k) u ≡ true) → (i < length b → before u (key_in b i) ≡ true) → Around b u i i
+  around_other l f h = record {
+    front = front_all u b i l f;
     back = ⊎_elim
         (λ (l : i < length b). subst (AllByRecursion (λ e. before u e.0 ≡ true)) (sym (drop_more b i ([], []) l)) (h l, along u (key_in b i) (drop (i + 1) b) (h l) (behind l)))
         (λ (l : length b ≤ i). subst (AllByRecursion (λ e. before u e.0 ≡ true)) (sym (drop_all i b l)) tt)
         (cases_lt i (length b));
   }
+
+-- ---- by a search of the rows that hold it
+
+index_less : (o : Ordering) → is_lt o ≡ true → ordering_index o ≡ 0
+index_less Less e = refl
+index_less Equal e = absurd (false≢true e)
+index_less Greater e = absurd (false≢true e)
+
+index_most : (o : Ordering) → ordering_index o ≤ 2
+index_most Less = omega arith
+index_most Equal = omega arith
+index_most Greater = omega arith
+
+-- of two spellings the later stands no lower to a third
+rises : (v w u : List ℕ) → before v w ≡ true → ordering_index (ordering v u) ≤ ordering_index (ordering w u)
+rises v w u h = go (stand w u) where
+  go : Stand w u → ordering_index (ordering v u) ≤ ordering_index (ordering w u)
+  go (first l o) = let e = index_less (ordering v u) (total_order.along v w u h l) in omega arith
+  go (equal l o) = let e = index_less (ordering v u) (subst (λ (z : List ℕ). before v z ≡ true) l h) in omega arith
+  go (later l o) = let e = ap ordering_index o in let m = index_most (ordering v u) in omega arith
+
+module _ (rows : List Pattern) (u : List ℕ) (a : Ascending (map spelled rows)) where
+  abbrev stands : Pattern → Ordering
+  stands p = ordering (symbols_of p.spelling) u
+
+  key : (k : ℕ) (d : Pattern) → k < length rows → key_in (map spelled rows) k ≡ symbols_of (get_or rows k d).spelling
+  key k d h = ap (λ (e : Spelled). e.0) (get_or-map spelled rows k d ([], []) h)
+
+  stands_at : (k : ℕ) (d : Pattern) → k < length rows → ordering (key_in (map spelled rows) k) u ≡ stands (get_or rows k d)
+  stands_at k d h = ap (λ (v : List ℕ). ordering v u) (key k d h)
+
+  -- some row, where there are rows
+  some : (k : ℕ) → k < length rows → Pattern
+  some k h = go rows h where
+    go : (ps : List Pattern) → k < length ps → Pattern
+    go [] l = absurd (omega arith)
+    go (p ∷ ps) l = p
+
+  stands_as : (k : ℕ) (o : Ordering) → k < length rows → HoldsAt (λ p. stands p ≡ o) rows k → ordering (key_in (map spelled rows) k) u ≡ o
+  stands_as k o h f = stands_at k (some k h) h ∙ f (some k h)
+
+  rising : IsNonDecreasingBy (λ p. ordering_index (stands p)) rows
+  rising i j d h l =
+      let m = length-map rows spelled in
+      ⊎_elim
+      (λ (e : i ≡ j). let q = ap (λ (k : ℕ). ordering_index (stands (get_or rows k d))) e in omega arith)
+      (λ (e : i ≡ j → ⊥).
+      let r = rises (key_in (map spelled rows) i) (key_in (map spelled rows) j) u (pair (map spelled rows) a i j (omega arith) (omega arith)) in
+      let x = ap ordering_index (stands_at i d (omega arith)) in
+      let y = ap ordering_index (stands_at j d l) in
+      omega arith)
+      (cases_eq i j)
+
+  pub found : (r : Result ℕ ℕ) → IsSearchInRange r (length rows) → IsBinarySearchResult stands rows r → Found (map spelled rows) u r
+  found (Ok i) l s =
+      let m = length-map rows spelled in
+      let k = total_order.alike (key_in (map spelled rows) i) u (stands_as i Equal l s) in
+      (omega arith, k, around_held (map spelled rows) u i a (omega arith) k)
+  found (Err i) l s =
+      let m = length-map rows spelled in
+      let p = s rising in (
+        omega arith,
+        around_other (map spelled rows) u i a (omega arith)
+            (λ k h. ap is_lt (stands_as k Less (omega arith) (λ d. p.0 k d (omega arith) h)))
+            (λ h. let v = key_in (map spelled rows) i in ap is_lt (total_order.turned v u ∙ ap ordering_reverse (stands_as i Greater (omega arith) (λ d. p.1 i d (omega arith) (omega arith))))),
+      )
 
 -- ---- in a table
 
@@ -59,55 +142,3 @@ pub rest_held : (t : Table) (i : ℕ) → i ≤ t.used → map spelled (take (t.
 rest_held t i h =
     let e : i + (t.used - i) ≡ t.used = omega arith in
     ap (map spelled) (sym (drop-take i (t.used - i) (rows_of t)) ∙ ap (λ (k : ℕ). drop i (take k (rows_of t))) e) ∙ sym (drop-map spelled i (take t.used (rows_of t)))
-
-key_take : (t : Table) (k : ℕ) → k < t.used → key_at (take t.used (rows_of t)) k ≡ key_at (rows_of t) k
-key_take t k h =
-    let f : Pattern → List ℕ = λ p. symbols_of p.spelling in
-    ap (λ (x : List (List ℕ)). get_or x k []) (sym (take-map f t.used (rows_of t))) ∙ get_or-take t.used (map f (rows_of t)) k [] h
-
--- the rows in use are in order by themselves
-pub taken_order : (t : Table) → InOrder (take t.used (rows_of t)) (length (take t.used (rows_of t)))
-taken_order t k h =
-    let e = length-take-le t.used (rows_of t) t.within in
-    let g : suc k < t.used = omega arith in
-    ap₂ before (key_take t k (omega arith)) (key_take t (suc k) g) ∙ t.ordered k g
-
-front_all : (rows : List Pattern) (u : List ℕ) (i : ℕ) → ((k : ℕ) → k < i → before (key_at rows k) u ≡ true) → AllByRecursion (λ e. before e.0 u ≡ true) (take i (map spelled rows))
-front_all rows u zero f = tt
-front_all [] u (suc i) f = tt
-front_all (p ∷ rows) u (suc i) f = (f 0 (omega arith), front_all rows u i (λ k h. f (suc k) (omega arith)))
-
--- what neither comes before nor is the same comes after
-after_of : (v u : List ℕ) → before v u ≡ false → same v u ≡ false → before u v ≡ true
-after_of v u b s = go (stand v u) where
-  go : Stand v u → before u v ≡ true
-  go (first l o) = absurd (true≢false (sym l ∙ b))
-  go (equal e o) = absurd (false≢true (sym s ∙ subst (λ (w : List ℕ). same v w ≡ true) e (same_refl v)))
-  go (later l o) = l
-
-module _ (t : Table) (u : List ℕ) (i : ℕ) (p : PlaceOf (take t.used (rows_of t)) u i) where
-  front : AllByRecursion (λ e. before e.0 u ≡ true) (take i (held_by t))
-  front = front_all (take t.used (rows_of t)) u i p.front
-
-  module _ (d : Pattern) (h : i < t.used) where
-    key : key_in (held_by t) i ≡ symbols_of (get_or (rows_of t) i d).spelling
-    key = ap (λ (e : Spelled). e.0) (entry_is t i d ([], []) h)
-
-    pub found_held : true ≡ same (symbols_of (get_or (rows_of t) i d).spelling) u → Found (held_by t) u (Ok i)
-    found_held q =
-        let m = held_length t in
-        let k : key_in (held_by t) i ≡ u = key ∙ same_eq (symbols_of (get_or (rows_of t) i d).spelling) u (sym q) in
-        (omega arith, k, around_held (held_by t) u i (ascends_of (rows_of t) t.used t.ordered) (omega arith) front k)
-
-    pub found_differs : false ≡ same (symbols_of (get_or (rows_of t) i d).spelling) u → before u (key_in (held_by t) i) ≡ true
-    found_differs q =
-        let k = length-take-le t.used (rows_of t) t.within in
-        let f : key_at (take t.used (rows_of t)) i ≡ symbols_of (get_or (rows_of t) i d).spelling = key_take t i h ∙ key_is (rows_of t) i d (omega arith) in
-        ap (before u) key
-        ∙ after_of (symbols_of (get_or (rows_of t) i d).spelling) u (sym (ap (λ (v : List ℕ). before v u) f) ∙ p.rest i (omega arith) (omega arith)) (sym q)
-
-  pub found_other : (i < t.used → before u (key_in (held_by t) i) ≡ true) → Found (held_by t) u (Err i)
-  found_other h =
-      let m = held_length t in
-      let k = length-take-le t.used (rows_of t) t.within in
-      (omega (arith, p.within), around_other (held_by t) u i (ascends_of (rows_of t) t.used t.ordered) front (λ g. h (omega arith)))

@@ -1,5 +1,4 @@
 mod Ascents
-mod Narrowing
 mod Finding
 mod Meaning
 mod Shifting

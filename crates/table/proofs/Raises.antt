@@ -1,6 +1,7 @@
 -- What a raise leaves in the rows, and what these hold then.
-use Rattle.std.proofs.Common.{◌≡◌, ℕ, zero, suc, ◌+◌, ◌<◌, ◌≤◌, Bool, true, false, ◌||◌, ltb, List, [], ◌∷◌, ◌++◌, map, length, get_or, take, drop, set, Ok, Err, sym, refl, ap, ◌∙◌, subst, ap₂, arith}
+use Rattle.std.proofs.Common.{◌≡◌, ℕ, ◌+◌, ◌<◌, ◌≤◌, Bool, true, false, ◌||◌, ltb, List, [], ◌∷◌, ◌++◌, map, length, get_or, take, drop, set, Ok, Err, sym, ap, ◌∙◌, subst, ap₂, arith}
 use Rattle.std.specs.List.{between}
+use Rattle.std.proofs.Math.Seq.{take-set-lt}
 use Rattle.std.proofs.lemmas.List.Edits.{length-between}
 use Rattle.std.proofs.lemmas.List.{append_assoc, length-append, length-take-le, length-set, take_at, drop_at, take-take, take-map, map-append, map-set}
 use Rattle.std.proofs.lemmas.Bool.{or_left, or_right, or_from, lt-ltb, le-ltb}
@@ -32,12 +33,6 @@ raised_is b new p a e =
 
 -- ---- the spelling is held
 
-take_set_any : (n : ℕ) (rows : List Pattern) (i : ℕ) (p : Pattern) → take n (set rows i p) ≡ set (take n rows) i p
-take_set_any zero rows i p = refl
-take_set_any (suc n) [] i p = refl
-take_set_any (suc n) (r ∷ rows) zero p = refl
-take_set_any (suc n) (r ∷ rows) (suc i) p = ap (λ (x : List Pattern). r ∷ x) (take_set_any n rows i p)
-
 -- whether a raise is taken
 abbrev taken : Table → Pattern → Bool
 taken t p = holds (held_by t) (symbols_of p.spelling) || ltb (length (held_by t)) (limit_of t)
@@ -52,7 +47,7 @@ module _ (t : Table) (p : Pattern) (i : ℕ) (d : Pattern) (h : i < t.used) (f :
 
     held_risen : in_use (set (rows_of t) i q) t.used ≡ risen (held_by t) p
     held_risen =
-        ap (map spelled) (take_set_any t.used (rows_of t) i q)
+        ap (map spelled) (take-set-lt t.used (rows_of t) i q h)
         ∙ map-set spelled (take t.used (rows_of t)) i q
         ∙ ap (set (held_by t) i) (e ∙ ap₂ (λ (x y : List ℕ). (x, greater y p.row.values)) same_spelling (sym (ap (λ (x : Spelled). x.1) (entry_is t i d ([], []) h))))
         ∙ sym (raised_held (held_by t) (symbols_of p.spelling) i f p.row.values)

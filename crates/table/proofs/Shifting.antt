@@ -1,8 +1,8 @@
 -- Rows moved one further, and a row put in.
-use Rattle.std.proofs.Common.{◌≡◌, ℕ, suc, ◌+◌, ◌-◌, ◌<◌, ◌≤◌, ◌≢◌, List, [], ◌∷◌, ◌++◌, map, length, get_or, take, drop, set, sym, ap, ◌∙◌, ap₂, arith}
-use Rattle.std.specs.List.{between}
-use Rattle.std.proofs.lemmas.List.Edits.{between_none, length-between}
-use Rattle.std.proofs.lemmas.List.{append_assoc, length-append, length-take-le, length-drop, take-append-drop, take_more, drop_more, set_at, get_or_append_left, get_or-take, get_or-set_other, map-set, set-get_or}
+use Rattle.std.proofs.Common.{◌≡◌, ℕ, suc, ◌+◌, ◌-◌, ◌<◌, ◌≤◌, List, [], ◌∷◌, ◌++◌, map, length, get_or, take, drop, set, sym, ap, ◌∙◌, ap₂, arith}
+use Rattle.std.specs.List.{between, copy_within}
+use Rattle.std.proofs.lemmas.List.Edits.{length-between, take-paste, drop-paste}
+use Rattle.std.proofs.lemmas.List.{append_assoc, length-append, length-take-le, length-drop, take-append-drop, take_more, take-map, set_at, get_or-take, map-set, set-get_or}
 use Rattle.patterns.specs.declared.pattern.Pattern.{Pattern}
 use Rattle.patterns.specs.Order.{before}
 use Rattle.patterns.specs.Views.{symbols_of}
@@ -16,11 +16,15 @@ key_of p = symbols_of p.spelling
 pub order_by_keys : (rows new : List Pattern) (n : ℕ) → ((k : ℕ) → k < n → key_at new k ≡ key_at rows k) → InOrder rows n → InOrder new n
 order_by_keys rows new n e o k h = ap₂ before (e k (omega arith)) (e (suc k) h) ∙ o k h
 
--- beyond those in order
-pub order_set : (rows : List Pattern) (n m : ℕ) (p : Pattern) → n ≤ m → InOrder rows n → InOrder (set rows m p) n
-order_set rows n m p l o =
-    order_by_keys rows (set rows m p) n
-    (λ k h. let q : k ≢ m = omega arith in ap (λ (x : List (List ℕ)). get_or x k []) (map-set key_of rows m p) ∙ get_or-set_other (map key_of rows) m k (key_of p) [] q) o
+-- by what stands before the rows that change
+pub order_before : (rows new : List Pattern) (n m : ℕ) → n ≤ m → take n new ≡ take n rows → InOrder rows m → InOrder new n
+order_before rows new n m l e o =
+    order_by_keys rows new n
+    (λ k h. sym (key_taken new n k h) ∙ ap (λ (x : List Pattern). key_at x k) e ∙ key_taken rows n k h)
+    (λ k h. o k (omega arith))
+  where
+    key_taken : (ps : List Pattern) (n k : ℕ) → k < n → key_at (take n ps) k ≡ key_at ps k
+    key_taken ps n k h = ap (λ (x : List (List ℕ)). get_or x k []) (sym (take-map key_of n ps)) ∙ get_or-take n (map key_of ps) k [] h
 
 -- by one of the same spelling
 pub order_same : (rows : List Pattern) (n m : ℕ) (p : Pattern) → key_of p ≡ key_at rows m → InOrder rows n → InOrder (set rows m p) n
@@ -30,10 +34,16 @@ order_same rows n m p e o =
 
 -- ---- room made
 
-module _ (rows : List Pattern) (n : ℕ) (l : n < length rows) where
-  pub opened_none : opened rows n n ≡ rows
-  opened_none = ap (λ (x : List Pattern). take (n + 1) rows ++ (x ++ drop (n + 1) rows)) (between_none rows n) ∙ take-append-drop (n + 1) rows
+pub opened_copy : (rows : List Pattern) (at n : ℕ) → at ≤ n → n < length rows → copy_within rows at n (at + 1) ≡ opened rows at n
+opened_copy rows at n h l =
+    let k = length-drop at rows in
+    let e : at + 1 + (n - at) ≡ n + 1 = omega arith in
+    sym (take-append-drop (at + 1 + (n - at)) (copy_within rows at n (at + 1)))
+    ∙ ap₂ (λ (x y : List Pattern). x ++ y) (take-paste rows (at + 1) (drop at rows) (n - at) (omega arith) (omega arith)) (drop-paste rows (at + 1) (drop at rows) (n - at) (omega arith) (omega arith))
+    ∙ append_assoc (take (at + 1) rows) (between at n rows) (drop (at + 1 + (n - at)) rows)
+    ∙ ap (λ (j : ℕ). take (at + 1) rows ++ (between at n rows ++ drop j rows)) e
 
+module _ (rows : List Pattern) (n : ℕ) (l : n < length rows) where
   pub opened_length : (k : ℕ) → k ≤ n → length (opened rows k n) ≡ length rows
   opened_length k h =
       let a = length-append (take (k + 1) rows) (between k n rows ++ drop (n + 1) rows) in
@@ -53,20 +63,3 @@ module _ (rows : List Pattern) (n : ℕ) (l : n < length rows) where
   opened_set k p h =
       ap (λ (x : List Pattern). set x k p) (opened_split k p h)
       ∙ set_at (take k rows) (get_or rows k p) (between k n rows ++ drop (n + 1) rows) p k (length-take-le k rows (omega arith))
-
-  between_first : (k : ℕ) (d : Pattern) → k < n → between k n rows ≡ get_or rows k d ∷ between (k + 1) n rows
-  between_first k d h =
-      let e : n - k ≡ suc (n - (k + 1)) = omega arith in
-      ap₂ (λ (m : ℕ) (x : List Pattern). take m x) e (drop_more rows k d (omega arith))
-
-  opened_at : (k : ℕ) (d : Pattern) → k < n → get_or (opened rows (k + 1) n) k d ≡ get_or rows k d
-  opened_at k d h =
-      let e = length-take-le (k + 1 + 1) rows (omega arith) in
-      get_or_append_left (take (k + 1 + 1) rows) (between (k + 1) n rows ++ drop (n + 1) rows) d k (omega arith) ∙ get_or-take (k + 1 + 1) rows k d (omega arith)
-
-  -- one row more is moved
-  pub opened_step : (k : ℕ) (d : Pattern) → k < n → set (opened rows (k + 1) n) (k + 1) (get_or (opened rows (k + 1) n) k d) ≡ opened rows k n
-  opened_step k d h =
-      ap (set (opened rows (k + 1) n) (k + 1)) (opened_at k d h)
-      ∙ opened_set (k + 1) (get_or rows k d) (omega arith)
-      ∙ ap (λ (x : List Pattern). take (k + 1) rows ++ (x ++ drop (n + 1) rows)) (sym (between_first k d h))

@@ -2,7 +2,6 @@
 #![tactic(auto)]
 
 pub mod reading;
-pub mod search;
 pub mod table;
 pub mod writing;
 
@@ -14,17 +13,11 @@ mod tests {
     use std::test::Fail;
 
     fn pattern(text: &[u8]) -> Result<Pattern, Fail> {
-        match Pattern::read(text) {
-            Ok(pattern) => Ok(pattern),
-            Err(_) => Err(Fail::new("no pattern text")),
-        }
+        Pattern::read(text).map_err(|_| Fail::new("no pattern text"))
     }
 
     fn is(answer: Option<Spelling>, spelling: &Spelling) -> bool {
-        match answer {
-            Some(other) => other == *spelling,
-            None => false,
-        }
+        answer.is_some_and(|other| other.compare(spelling).is_eq())
     }
 
     #[test]

@@ -41,9 +41,7 @@ impl<'a> Table<'a> {
     {
         let used = self.used;
         self.used = at;
-        for k in (at..used).rev() {
-            self.rows[k + 1] = self.rows[k];
-        }
+        self.rows.copy_within(at..used, at + 1);
     }
 }
 

@@ -5,4 +5,4 @@ use Rattle.kinds.proofs.Starting.{StartsTo}
 use Rattle.kinds.proofs.values.values_of.Given as goal
 
 abbrev pub invariant-loop-start : goal.invariant-loop-start
-invariant-loop-start g l = (length l.gaps ≡ gap_count) × StartsTo (g.B.ReadingBook.held l.book) (headword l.word) l.start l.gaps
+invariant-loop-start g l = record { full : length l.gaps ≡ gap_count; raised : StartsTo (g.B.ReadingBook.held l.book) (headword l.word) l.start l.gaps }

@@ -1,40 +1,20 @@
-use Rattle.std.proofs.Common.{◌≡◌, ℕ, ◌-◌, List, length, take, sym, subst, arith}
-use Rattle.std.proofs.lemmas.List.{length-take-le}
+use Rattle.std.proofs.Common.{rules, take, length, List, Ordering, subst}
+use Rattle.std.specs.List.Sorted.{IsBinarySearchResult, IsSearchInRange}
+use Rattle.std.proofs.lemmas.Fn.{always_returns_same}
+use Rattle.patterns.specs.declared.pattern.Pattern.{Pattern}
+use Rattle.patterns.specs.Order.{ordering}
 use Rattle.patterns.specs.Views.{symbols_of}
-use Rattle.table.specs.declared.table.Table.{Table}
-use Rattle.table.specs.Rows.{InOrder}
-use Rattle.table.specs.Places.{PlaceOf}
-use Rattle.table.proofs.Finding.{taken_order, found_held, found_other, found_differs}
+use Rattle.table.specs.Soundness.{ascends_of}
+use Rattle.table.specs.Views.{rows_of}
+use Rattle.table.proofs.Finding.{found}
 use Rattle.table.proofs.table.Table.find.Goals as goal
-use Rattle.table.proofs.table.Table.find.Goals.{else-at-self-via-then-at-self+else-eq, else-at-self-via-else-at-self}
 
--- a range from 0 on, as the first so many
-whole : (t : Table) (u : List ℕ) (i : ℕ) → PlaceOf (take (t.used - 0) t.rows.now) u i → PlaceOf (take t.used t.rows.now) u i
-whole t u i p = let e : t.used - 0 ≡ t.used = omega arith in subst (λ (n : ℕ). PlaceOf (take n t.rows.now) u i) e p
-
-pub lower_bound-at-requires : goal.lower_bound-at-requires
-lower_bound-at-requires c =
-    let t = c.args.self.now in
-    let e : t.used - 0 ≡ t.used = omega arith in
-    subst (λ (n : ℕ). InOrder (take n t.rows.now) (length (take n t.rows.now))) (sym e) (taken_order t)
-
-pub returns-then-eq : goal.returns-then-eq
-returns-then-eq c =
+pub returns-clause-place : goal.returns-clause-place
+returns-clause-place c =
     let t = c.args.self.now in
     let u = symbols_of c.args.spelling.now in
-    let i = c.lower_bound-at.result in
-    record { within = c.if-at-self.true; place = found_held t u i (whole t u i c.lower_bound-at.ensures) c.index-rows-at.result c.if-at-self.true c.if-eq.ensures }
-
-pub returns-else-at-self : goal.returns-else-at-self
-returns-else-at-self c =
-    let t = c.args.self.now in
-    let u = symbols_of c.args.spelling.now in
-    let i = c.lower_bound-at.result in
-    let p = whole t u i c.lower_bound-at.ensures in
-    record {
-      within = omega (arith, length-take-le t.used t.rows.now t.within, p.within);
-      place = found_other t u i p (λ h. elim c.else-at-self.branch [
-        | else-at-self-via-then-at-self+else-eq w ↦ found_differs t u i p w.index-rows-at.result h w.if-eq.ensures
-        | else-at-self-via-else-at-self w ↦ absurd (omega (arith, w.if-at-self.false))
-      ]);
-    }
+    let r = c.binary_search_by.result in
+    let by : Pattern → Ordering = λ p. ordering (symbols_of p.spelling) u in
+    found (take t.used (rows_of t)) u (ascends_of (rows_of t) t.used t.ordered) r
+    (subst (λ (rows : List Pattern). IsSearchInRange r (length rows)) c.in_use.ensures c.binary_search_by.ensures.bound)
+    (subst (λ (rows : List Pattern). IsBinarySearchResult by rows r) c.in_use.ensures (c.binary_search_by.ensures.position by (always_returns_same _ _ _ (λ a r f h. search rules))))

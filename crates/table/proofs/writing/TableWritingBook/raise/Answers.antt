@@ -1,17 +1,9 @@
-use Rattle.std.proofs.Common.{List, length, refl, ap, ◌∙◌, arith}
-use Rattle.std.proofs.lemmas.List.{length-set, drop-set-lt}
-use Rattle.patterns.specs.declared.pattern.Pattern.{Pattern}
-use Rattle.table.proofs.Raises.{same_spelling, held_order, held_raised, refused, put_length, put_rest, put_order, put_raised}
-use Rattle.table.proofs.Shifting.{opened_length}
+use Rattle.std.proofs.Common.{refl, arith}
+use Rattle.std.proofs.lemmas.List.{length-set}
+use Rattle.table.proofs.Raises.{held_order, held_raised, refused, put_length, put_rest, put_order, put_raised}
 use Rattle.table.proofs.writing.TableWritingBook.raise.Goals as goal
 
 -- ---- the spelling is held
-
-pub joined-requires : goal.joined-requires
-joined-requires c =
-    let t = c.args.self.now in
-    let f = c.in-Ok.ensures in
-    same_spelling t c.args.pattern.now c.in-Ok.at c.index-self-at.result f.within f.place
 
 pub invariant_of-self : goal.invariant_of-self
 invariant_of-self c =
@@ -23,34 +15,18 @@ invariant_of-self c =
       ordered = held_order t c.args.pattern.now c.in-Ok.at c.index-self-at.result f.within f.place c.joined.result c.joined.ensures;
     }
 
-pub returns-in-Ok : goal.returns-in-Ok
-returns-in-Ok c =
+pub returns-in-Ok-clause-held : goal.returns-in-Ok-clause-held
+returns-in-Ok-clause-held c =
     let t = c.args.self.now in
     let f = c.in-Ok.ensures in
-    record {
-      limit = length-set t.rows.now c.in-Ok.at c.joined.result;
-      held = held_raised t c.args.pattern.now c.in-Ok.at c.index-self-at.result f.within f.place c.joined.result c.joined.ensures;
-      rows = drop-set-lt t.used t.rows.now c.in-Ok.at c.joined.result f.within;
-    }
+    held_raised t c.args.pattern.now c.in-Ok.at c.index-self-at.result f.within f.place c.joined.result c.joined.ensures
 
 -- ---- the spelling is not held
 
-pub returns-then-used-self : goal.returns-then-used-self
-returns-then-used-self c =
-    let t = c.args.self.now in
+pub returns-then-used-self-clause-held : goal.returns-then-used-self-clause-held
+returns-then-used-self-clause-held c =
     let f = c.in-Err.ensures in
-    record {
-      limit = refl;
-      held = (refused t c.args.pattern.now c.in-Err.at f.within f.place c.if-used-self.true, refl);
-      rows = (refl, refl);
-    }
-
-pub bounds-self-at-in-Err : goal.bounds-self-at-in-Err
-bounds-self-at-in-Err c =
-    let t = c.args.self.now in
-    let f = c.in-Err.ensures in
-    let e = ap (λ (x : List Pattern). length x) c.make_room.ensures.rows ∙ opened_length t.rows.now t.used c.if-used-self.false c.in-Err.at f.within in
-    omega (arith, f.within)
+    (refused c.args.self.now c.args.pattern.now c.in-Err.at f.within f.place c.if-used-self.true, refl)
 
 pub invariant_of-self-in-Err : goal.invariant_of-self-in-Err
 invariant_of-self-in-Err c =
@@ -63,14 +39,12 @@ invariant_of-self-in-Err c =
       ordered = put_order t c.args.pattern.now c.in-Err.at f.within f.place c.if-used-self.false new c.make_room.ensures.rows;
     }
 
-pub returns-else-used-self : goal.returns-else-used-self
-returns-else-used-self c =
-    let t = c.args.self.now in
+pub returns-else-used-self-clause-held : goal.returns-else-used-self-clause-held
+returns-else-used-self-clause-held c =
     let f = c.in-Err.ensures in
-    let new = c.make_room.new.self.rows.now in
-    let e = c.make_room.ensures.rows in
-    record {
-      limit = put_length t c.args.pattern.now c.in-Err.at f.within f.place c.if-used-self.false new e;
-      held = put_raised t c.args.pattern.now c.in-Err.at f.within f.place c.if-used-self.false new e;
-      rows = put_rest t c.args.pattern.now c.in-Err.at f.within f.place c.if-used-self.false new e;
-    }
+    put_raised c.args.self.now c.args.pattern.now c.in-Err.at f.within f.place c.if-used-self.false c.make_room.new.self.rows.now c.make_room.ensures.rows
+
+pub returns-else-used-self-clause-rows : goal.returns-else-used-self-clause-rows
+returns-else-used-self-clause-rows c =
+    let f = c.in-Err.ensures in
+    put_rest c.args.self.now c.args.pattern.now c.in-Err.at f.within f.place c.if-used-self.false c.make_room.new.self.rows.now c.make_room.ensures.rows
