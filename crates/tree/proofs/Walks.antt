@@ -1,11 +1,13 @@
 -- Walking along the children of a cell.
-use Rattle.std.proofs.Common.{◌≡◌, ℕ, ◌<◌, ◌≤◌, ◌≢◌, List, length, get_or, sym, refl, ap, ◌∙◌, subst, ⊎_elim, arith}
-use Rattle.std.proofs.lemmas.Bool.{cases_eq}
+use Rattle.std.proofs.Common.{◌≡◌, ℕ, ◌<◌, ◌≤◌, ◌≢◌, List, length, get_or, Some, None, Option, sym, refl, ap, ◌∙◌, subst, ⊎_elim, arith}
+use Rattle.std.proofs.lemmas.Bool.{cases_eq, cases_lt}
 use Rattle.std.proofs.lemmas.List.{get_or-map}
 use Rattle.std.proofs.lemmas.Bool.Decides.{nat_tests}
 use Rattle.tree.specs.declared.cell.Link.{Link}
 use Rattle.tree.specs.declared.cell.Cell.{Cell}
-use Rattle.tree.specs.Cells.{links, at, no_link, Shape, Walk, Gap, Child, Above, to_go}
+use Rattle.tree.specs.Numbers.{cell_of, number_of, Linkable}
+use Rattle.tree.specs.Cells.{links, at, no_link, Shape, Walk, Gap, Placed, Child, Above, to_go}
+use Rattle.tree.proofs.Numbers.{cell_cases, cell_number, number_some}
 
 pub read : {V : Type 0} (cs : List (Cell V)) (i : ℕ) (d : Cell V) → i < length cs → (get_or cs i d).link ≡ at (links cs) i
 read cs i d h = sym (get_or-map (λ c. c.link) cs i d no_link h)
@@ -60,26 +62,39 @@ module _ (ls : List Link) (up : ℕ → ℕ) (used : ℕ) (shape : Shape ls up u
       (u.0, shape.apart j i (omega arith) hj.0 pos lt (eu ∙ sym hj.1) (omega (arith, u.1)))
 
   -- the two children next to s, where j has it
-  pub sides_met : (b j : ℕ) → Gap ls up used p s b j → j ≢ 0 → (at ls j).symbol ≡ s → Child ls up used p s j × Above ls up used p s (at ls j).next
-  sides_met b j g ne sy =
-      let hj = g.walk.here ne in
-      let pos : 0 < j = omega arith in (
-        record { found = λ _. (hj.0, hj.1, sy); missing = λ z. absurd (ne z) },
-        record {
-          found = λ nn. let n = shape.nexts j pos hj.0 nn in (n.0, n.1 ∙ hj.1, omega (arith, n.2));
-          first = λ i pi hi eu big. shape.after j i pos hj.0 pi hi (eu ∙ sym hj.1) (omega arith);
-        },
+  pub sides_met : (b j : ℕ) → Gap ls up used p s b j → 0 < j → (at ls j).symbol ≡ s → Child ls up used p s (Some j) × Above ls up used p s (cell_of (at ls j).next)
+  sides_met b j g pos sy =
+      let hj = g.walk.here (omega arith) in (
+        (pos, hj.0, hj.1, sy),
+        cell_cases (Above ls up used p s) (at ls j).next
+            (λ z i pi hi eu. ⊎_elim
+            (λ (big : s < (at ls i).symbol). absurd ((shape.after j i pos hj.0 pi hi (eu ∙ sym hj.1) (omega arith)).0 z))
+            (λ (le : (at ls i).symbol ≤ s). le)
+            (cases_lt s (at ls i).symbol))
+            (λ nn. let n = shape.nexts j pos hj.0 nn in (omega arith, n.0, n.1 ∙ hj.1, omega (arith, n.2), λ i pi hi eu big. (shape.after j i pos hj.0 pi hi (eu ∙ sym hj.1) (omega arith)).1)),
       )
 
   -- and where it has not
-  pub sides_missed : (b j : ℕ) → Gap ls up used p s b j → (j ≢ 0 → (at ls j).symbol ≢ s) → Child ls up used p s 0 × Above ls up used p s j
+  pub sides_missed : (b j : ℕ) → Gap ls up used p s b j → (j ≢ 0 → (at ls j).symbol ≢ s) → Child ls up used p s None × Above ls up used p s (cell_of j)
   sides_missed b j g fresh = (
-    record {
-      found = λ ne. absurd (ne refl);
-      missing = λ _ i pi hi eu sy. let c = child_of b j g i pi hi eu sy in fresh c.0 (ap (λ (x : ℕ). (at ls x).symbol) (sym c.1) ∙ sy);
-    },
-    record {
-      found = λ ne. let hj = g.walk.here ne in let r = g.reached ne in let f = fresh ne in (hj.0, hj.1, omega arith);
-      first = λ i pi hi eu big. gap_upper b j g i pi hi eu (omega arith);
-    },
+    λ i pi hi eu sy. let c = child_of b j g i pi hi eu sy in fresh c.0 (ap (λ (x : ℕ). (at ls x).symbol) (sym c.1) ∙ sy),
+    cell_cases (Above ls up used p s) j
+        (λ z i pi hi eu. ⊎_elim
+        (λ (big : s < (at ls i).symbol). absurd ((gap_upper b j g i pi hi eu (omega arith)).0 z))
+        (λ (le : (at ls i).symbol ≤ s). le)
+        (cases_lt s (at ls i).symbol))
+        (λ ne. let hj = g.walk.here ne in let r = g.reached ne in let f = fresh ne in (omega arith, hj.0, hj.1, omega arith, λ i pi hi eu big. (gap_upper b j g i pi hi eu (omega arith)).1)),
   )
+
+  -- the same of the cells of a place
+  module _ (before here : Option ℕ) (place : Placed ls up used p s before here) where
+    pub at_here : (j : ℕ) → here ≡ Some j → Gap ls up used p s (number_of before) j × (0 < j)
+    at_here j e = (subst (λ (o : Option ℕ). Gap ls up used p s (number_of before) (number_of o)) e place.gap, subst Linkable e place.here_inner)
+
+    pub placed_met : (j : ℕ) → here ≡ Some j → (at ls j).symbol ≡ s → Child ls up used p s (Some j) × Above ls up used p s (cell_of (at ls j).next)
+    placed_met j e sy = let g = at_here j e in sides_met (number_of before) j g.0 g.1 sy
+
+    pub placed_missed : ((j : ℕ) → here ≡ Some j → (at ls j).symbol ≢ s) → Child ls up used p s None × Above ls up used p s here
+    placed_missed fresh =
+        let m = sides_missed (number_of before) (number_of here) place.gap (λ ne. fresh (number_of here) (number_some here ne)) in
+        (m.0, subst (Above ls up used p s) (cell_number here place.here_inner) m.1)
