@@ -14,6 +14,7 @@ use tree::tree::Tree;
 impl<'a> TreeBook<'a> {
     /// A book that holds nothing, over cells of any contents. Its limit is 0 below 16 cells, and else a fifteenth of the cells
     /// but one.
+    #[tactic(auto, using(crate::proofs::Booked::emptied))]
     pub fn new(cells: &'a mut [Cell<Row>]) -> TreeBook<'a>
         ensures none { booked result.tree.linked ≡ [] }
         ensures cells { cells_of result.tree.linked ≡ length cells.old }
@@ -56,6 +57,7 @@ impl<'a> WritingBook for TreeBook<'a> {
         self.tree.join(&pattern.spelling, pattern.row)
     }
 
+    #[tactic(auto, using(crate::proofs::Booked::emptied))]
     fn empty(&mut self) {
         self.tree.empty();
     }
