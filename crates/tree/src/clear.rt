@@ -12,7 +12,7 @@ pub(crate) fn clear<V: Joining>(cells: &mut [Cell<V>]) -> usize
     ensures stands { Stands V.kind cells.new result 0 }
     ensures none { meaning V.kind cells.new result ≡ [] }
 {
-    if cells.len() == 0 {
+    if cells.is_empty() {
         return 0;
     }
     let link = Link {

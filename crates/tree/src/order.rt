@@ -21,7 +21,8 @@ pub struct Turn {
     pub depth: usize,
 }
 
-/// A cell, and its spelling, the first `len` of `symbols`, behind which there is only 0.
+/// A cell, and its spelling, the first `len` of `symbols`, behind which there is only 0. It may have no letter yet, so that it is
+/// no `Spelling`.
 #[derive(Clone, Copy)]
 pub struct Way {
     pub cell: usize,

@@ -21,6 +21,7 @@ pub struct Sides {
 }
 
 impl<'a, V: Copy> Linked<'a, V> {
+    // The place of `symbol` among the children of `at`.
     pub(crate) fn gap(&self, at: usize, symbol: u8) -> Place
         requires { at < self.now.used }
         ensures { Placed (links self.now.cells.now) (ups self.now.cells.now self.now.used) self.now.used at symbol result.before result.here }
