@@ -1,5 +1,5 @@
 -- What a joining does to what is held, whatever it answers.
-use Rattle.std.proofs.Common.{◌≡◌, ℕ, ◌+◌, ◌<◌, ◌≤◌, true, false, List, length, Some, None, Ok, Err, Result, sym, refl, ap, ◌∙◌, subst}
+use Rattle.std.proofs.Common.{◌≡◌, ℕ, ◌+◌, ◌<◌, true, false, List, length, Some, None, Ok, Err, Result, sym, refl, ap, ◌∙◌, subst}
 use Rattle.books.specs.Maps.{Joined, lookup}
 use Rattle.books.specs.declared.book.Full.{Full}
 use Rattle.tree.specs.declared.cell.Cell.{Cell}
@@ -14,9 +14,6 @@ use Rattle.tree.proofs.Putting.{bare_not, solid, join_solid, put_bare, put_joine
 use Rattle.tree.proofs.Works.{means_sound, sought_some, stay, joined_new, joined_old, joined_nothing}
 
 module _ {V : Type 0} (K : Kind V) (t : Linked V) (count : ℕ) (s : Stands K t.cells.now t.used count) where
-  pub within_limit : length (held K t) ≤ most_of t
-  within_limit = subst (λ (n : ℕ). n ≤ most_of t) (sym s.counted) s.full
-
   -- v joined at the spelling u
   module _ (u : List ℕ) (v : V) (some : 0 < length u) (ruled : Ruled u) where
     -- at the cell that holds something there
