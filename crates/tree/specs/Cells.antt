@@ -75,6 +75,11 @@ pub record Placed (ls : List Link) (up : ℕ → ℕ) (used p s : ℕ) (before h
   pub before_inner : Linkable before
   pub here_inner : Linkable here
 
+-- the cell here where it has the symbol s, or it has not
+abbrev pub Met : List Link → ℕ → Option ℕ → Option ℕ → Type 0
+Met ls s here (Some r) = (here ≡ Some r) × ((at ls r).symbol ≡ s)
+Met ls s here None = (j : ℕ) → here ≡ Some j → (at ls j).symbol ≢ s
+
 -- the child of p with the symbol s, or there is none
 abbrev pub Child : List Link → (ℕ → ℕ) → ℕ → ℕ → ℕ → Option ℕ → Type 0
 Child ls up used p s (Some r) = (0 < r) × (r < used) × (up r ≡ p) × ((at ls r).symbol ≡ s)

@@ -15,15 +15,13 @@ impl<'a, V: Joining> Linked<'a, V> {
         ensures { Step V.kind self.old.cells.now self.new.cells.now self.old.used self.new.used at symbol result }
     {
         let place = self.gap(at, symbol);
-        match place.here {
-            Some(cell) if self.cells[cell].link.symbol == symbol => cell,
-            _ => {
-                let used = self.used;
-                insert(self.cells, used, at, place, symbol, V::nothing());
-                self.used = used + 1;
-                used
-            },
+        if let Some(cell) = self.met(place, symbol) {
+            return cell;
         }
+        let used = self.used;
+        insert(self.cells, used, at, place, symbol, V::nothing());
+        self.used = used + 1;
+        used
     }
 
     // From the root down a spelling.

@@ -1,6 +1,7 @@
 //! The search for a spelling.
 ghost use Rattle.std.specs.Prelude.{◌<◌};
-ghost use Rattle.tree.specs.Cells.{links, ups, Placed, Child, Above};
+ghost use Rattle.std.specs.Option.{ForSome};
+ghost use Rattle.tree.specs.Cells.{links, ups, Placed, Met, Child, Above};
 ghost use Rattle.tree.specs.Paths.{Found};
 
 use crate::linked::Linked;
@@ -39,21 +40,34 @@ impl<'a, V: Copy> Linked<'a, V> {
         Place { before, here }
     }
 
+    // The cell at a place, where it has the symbol.
+    pub(crate) fn met(&self, place: Place, symbol: u8) -> Option<usize>
+        requires { ForSome place.here (λ cell. cell < self.now.used) }
+        ensures { Met (links self.now.cells.now) symbol place.here result }
+    {
+        let cell = place.here?;
+        if self.cells[cell].link.symbol == symbol {
+            Some(cell)
+        } else {
+            None
+        }
+    }
+
     // The two children next to `symbol`.
     pub(crate) fn beside(&self, at: usize, symbol: u8) -> Sides
         requires { at < self.now.used }
         ensures same { Child (links self.now.cells.now) (ups self.now.cells.now self.now.used) self.now.used at symbol result.same }
         ensures above { Above (links self.now.cells.now) (ups self.now.cells.now self.now.used) self.now.used at symbol result.above }
     {
-        let here = self.gap(at, symbol).here;
-        match here {
-            Some(cell) if self.cells[cell].link.symbol == symbol => Sides {
-                same: here,
+        let place = self.gap(at, symbol);
+        match self.met(place, symbol) {
+            Some(cell) => Sides {
+                same: Some(cell),
                 above: self.cells[cell].link.sibling(),
             },
-            _ => Sides {
+            None => Sides {
                 same: None,
-                above: here,
+                above: place.here,
             },
         }
     }

@@ -1,8 +1,6 @@
-use Rattle.std.proofs.Common.{ℕ, length, sym, ap, ◌∙◌, subst, arith}
-use Rattle.std.proofs.lemmas.List.{length_push, length-take-le}
+use Rattle.std.proofs.Common.{ℕ, sym, ap, ◌∙◌, subst}
 use Rattle.patterns.specs.Views.{symbols_of}
 use Rattle.books.specs.Calls.{spelling}
-use Rattle.tree.specs.Cells.{links, at}
 use Rattle.tree.specs.Leasts.{FirstFrom}
 use Rattle.tree.proofs.Props.{standing}
 use Rattle.tree.proofs.Leasts.{least_is, least_absent}
@@ -13,32 +11,6 @@ returns-in_err-turn g c =
     let t = c.args.self.now in
     let K = g.V.Joining.kind in
     ap spelling c.from_residual.ensures ∙ sym (least_absent K t.linked.cells.now t.linked.used t.count (standing K t.linked t.count t.stands) c.args.other.now c.in_err-turn.ensures)
-
-pub way_to-way-requires : goal.way_to-way-requires
-way_to-way-requires g c =
-    let t = c.args.self.now in
-    let st = standing g.V.Joining.kind t.linked t.count t.stands in
-    let r = c.in_ok-turn.turn.cell in
-    let d = c.in_ok-turn.turn.depth in
-    let turns = c.in_ok-turn.ensures.0 in
-    let n = ap length turns.spelled ∙ length_push _ (at (links t.linked.cells.now) r).symbol in
-    let m = length-take-le d c.args.other.now turns.inside in
-    record {
-      within = turns.within;
-      inside = turns.inside;
-      short = omega (arith, st.shallow r turns.within);
-    }
-
-pub first_from-requires : goal.first_from-requires
-first_from-requires g c =
-    let t = c.args.self.now in
-    let turns = c.in_ok-turn.ensures.0 in
-    let e = c.way_to-way.ensures.cell in
-    record {
-      inner = omega (arith, turns.inner, e);
-      within = omega (arith, turns.within, e);
-      written = rw e (rw turns.spelled c.way_to-way.ensures.written);
-    }
 
 pub returns : goal.returns
 returns g c =

@@ -2,7 +2,7 @@ use Rattle.std.proofs.Common.{◌≡◌, ◌+◌, ◌<◌, false, length, get_or
 use Rattle.tree.specs.declared.cell.Link.{Link}
 use Rattle.tree.specs.Paths.{spelling_at}
 use Rattle.tree.specs.Descents.{value_at}
-use Rattle.tree.specs.Leasts.{Written, Onward}
+use Rattle.tree.specs.Leasts.{Written}
 use Rattle.tree.proofs.Props.{standing}
 use Rattle.tree.proofs.Walks.{read}
 use Rattle.tree.proofs.Spelt.{some_symbols, all_symbolic, inner_letters, some_letter}
@@ -79,20 +79,3 @@ invariant_of-result g c =
     let w = spelling_at cs t.linked.used p in
     let a = inv.2 in
     record { full = a.full; sized = (some_symbols w c.loop-cells.len c.loop-cells.symbols a r, a.sized); symbolic = all_symbolic w c.loop-cells.len c.loop-cells.symbols a r; unused = a.unused; edged = inner_letters w c.loop-cells.len c.loop-cells.symbols a r; lettered = some_letter w c.loop-cells.len c.loop-cells.symbols a r }
-
-pub returns : goal.returns
-returns g c =
-    let t = c.args.self.now in
-    let st = standing g.V.Joining.kind t.linked t.count t.stands in
-    let K = g.V.Joining.kind in
-    let cs = t.linked.cells.now in
-    let p = c.loop-cells.at in
-    let inv = c.loop-cells.invariant in
-    let h : p < length cs = omega (arith, inv.1, st.room) in
-    record {
-      cell = p;
-      within = inv.1;
-      spelled = sym inv.2.front;
-      held = ap K.bare (sym (read_value K cs p c.index-cells-at.result h)) ∙ sym c.loop-cells-test.ensures;
-      onward = subst (Onward K cs t.linked.used c.args.way.cell) (sym inv.2.front) inv.3;
-    }

@@ -18,12 +18,3 @@ returns-then-is_nothing g c =
     let f = c.in_ok-cell.ensures in
     let h : r < length t.cells.now = omega (arith, f.0, t.room) in
     ap K.bare (sought_some K t.cells.now t.used (tree_of t) c.args.spelling.now r f ∙ sym (read_value K t.cells.now r c.index-self-cell.result h)) ∙ sym c.if-is_nothing.ensures
-
-pub returns-else-is_nothing : goal.returns-else-is_nothing
-returns-else-is_nothing g c =
-    let t = c.args.self.now.linked in
-    let K = g.V.Joining.kind in
-    let r = c.in_ok-cell.cell in
-    let f = c.in_ok-cell.ensures in
-    let h : r < length t.cells.now = omega (arith, f.0, t.room) in
-    (f.0, f.1, ap K.bare (sym (read_value K t.cells.now r c.index-self-cell.result h)) ∙ sym c.if-is_nothing.ensures)
