@@ -63,3 +63,6 @@ zeros (suc n) (suc k) = zeros n k
 
 pub none_bounded : Bounded []
 none_bounded u k h = zeros places k
+
+pub emptied : (m : Map Row) → m ≡ [] → Bounded m
+emptied m e = subst Bounded (sym e) none_bounded

@@ -1,4 +1,4 @@
--- What a make holds keeps its rules: a tree book holds a book, and no entry of a tally holds counts of 0.
+-- What a tree book holds is a book.
 use Rattle.std.specs.Prelude.{◌≡◌, ℕ, ◌<◌, true, ◌≢◌, List, [], ◌∷◌, length, slice_index}
 use Rattle.std.proofs.Common.{sym, ap, ◌∙◌}
 use Rattle.std.specs.List.{AllByRecursion}
@@ -14,13 +14,10 @@ use Rattle.tree.specs.Rules.{Ruled}
 use Rattle.tree.specs.Meanings as tree
 use Rattle.tree.specs.RowKind.{row_kind, no_row}
 use Rattle.tree.specs.Stands.{Stands}
-use Rattle.tree.specs.declared.tree.Tree.{Tree}
-use Rattle.tree.proofs.Props.{stands_from}
+use Rattle.tree.specs.declared.linked.Linked.{Linked}
+use Rattle.tree.proofs.Props.{standing}
 use Rattle.tree.proofs.Putting.{bare_not}
 use Rattle.tree.proofs.Works.{means_sound}
-use Rattle.makes.specs.declared.counts.Counts.{Counts}
-use Rattle.makes.specs.CountsKind.{counts_kind}
-use Rattle.makes.specs.Tallies.{tallied}
 use Rattle.makes.specs.TreeBooks.{book_of, rows, booked, Bounded}
 
 ascends : (m : Map Row) → Ascending m → Ascending (book_of m)
@@ -53,12 +50,8 @@ book_sound m s r b = record {
       (both (λ e. Ruled e.0 × (e.1 ≢ no_row)) (λ e. lookup no_row m e.0 ≡ e.1) m (both (λ e. Ruled e.0) (λ e. e.1 ≢ no_row) m r s.some) (looked no_row m s.ascends)));
 }
 
--- a tree of rows that stands, and whose rows have no value beyond their spelling's last place
-pub tree_sound : (t : Tree Row) → ∥ Stands row_kind t.cells.now t.used t.count ∥₁ → Bounded (rows t) → Sound (booked t)
-tree_sound t s b =
-    let u = stands_from row_kind t.cells.now t.used t.count s in
+-- rows in a tree that stands, and none has a value beyond its spelling's last place
+pub tree_sound : (t : Linked Row) (count : ℕ) → ∥ Stands row_kind t.cells.now t.used count ∥₁ → Bounded (rows t) → Sound (booked t)
+tree_sound t count s b =
+    let u = standing row_kind t count s in
     book_sound (rows t) (means_sound row_kind t.cells.now t.used u.tree) u.ruled b
-
--- a tree of counts that stands
-pub counts_sound : (t : Tree Counts) → ∥ Stands counts_kind t.cells.now t.used t.count ∥₁ → tree.Sound counts_kind (tallied t)
-counts_sound t s = means_sound counts_kind t.cells.now t.used (stands_from counts_kind t.cells.now t.used t.count s).tree

@@ -1,6 +1,6 @@
 //! The calls of a tree book.
 ghost use Rattle.std.specs.Prelude.{◌≡◌, [], length};
-ghost use Rattle.makes.specs.Limits.{cells_of, most_of};
+ghost use Rattle.tree.specs.Holds.{cells_of, most_of};
 ghost use Rattle.makes.specs.TreeBooks.{booked};
 ghost use Rattle.makes.specs.Sounds.{«tree_sound»};
 
@@ -14,9 +14,10 @@ use tree::tree::Tree;
 impl<'a> TreeBook<'a> {
     /// A book that holds nothing, over cells of any contents. Its limit is 0 below 16 cells, and else a fifteenth of the cells
     /// but one.
+    #[tactic(auto, using(crate::proofs::Booked::emptied))]
     pub fn new(cells: &'a mut [Cell<Row>]) -> TreeBook<'a>
-        ensures none { booked result.tree ≡ [] }
-        ensures cells { cells_of result.tree ≡ length cells.old }
+        ensures none { booked result.tree.linked ≡ [] }
+        ensures cells { cells_of result.tree.linked ≡ length cells.old }
     {
         let tree = Tree::new(cells);
         TreeBook { tree }
@@ -24,9 +25,9 @@ impl<'a> TreeBook<'a> {
 }
 
 impl<'a> ReadingBook for TreeBook<'a> {
-    ghost held = { λ b. booked b.tree };
+    ghost held = { λ b. booked b.tree.linked };
 
-    ghost sound = { λ b. «tree_sound» b.tree b.stands b.bounded };
+    ghost sound = { λ b. «tree_sound» b.tree.linked b.tree.count b.tree.stands b.bounded };
 
     fn row(&self, spelling: &Spelling) -> Row {
         self.tree.value(spelling)
@@ -46,7 +47,7 @@ impl<'a> ReadingBook for TreeBook<'a> {
 }
 
 impl<'a> WritingBook for TreeBook<'a> {
-    ghost most = { λ b. most_of b.tree };
+    ghost most = { λ b. most_of b.tree.linked };
 
     fn limit(&self) -> usize {
         self.tree.limit()
@@ -56,6 +57,7 @@ impl<'a> WritingBook for TreeBook<'a> {
         self.tree.join(&pattern.spelling, pattern.row)
     }
 
+    #[tactic(auto, using(crate::proofs::Booked::emptied))]
     fn empty(&mut self) {
         self.tree.empty();
     }

@@ -19,6 +19,6 @@ impl Joining for Counts {
     }
 
     fn is_nothing(self) -> bool {
-        (self.good == 0) & (self.bad == 0)
+        self.good == 0 && self.bad == 0
     }
 }

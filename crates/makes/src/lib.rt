@@ -5,7 +5,6 @@ pub mod booking;
 pub mod counting;
 pub mod counts;
 pub mod tally;
-pub mod tallying;
 pub mod treebook;
 
 #[cfg(test)]
@@ -65,9 +64,9 @@ mod tests {
         let mut cells = [old_cell(counts(1, 2)); 31];
         let mut tally = Tally::new(&mut cells);
         let ab = read(b"a1b")?.spelling;
-        assert!(rt; tally.add(&ab, counts(u32::MAX, 3)).is_ok());
-        assert!(rt; tally.add(&ab, counts(5, 4)).is_ok());
-        let held = tally.counts(&ab);
+        assert!(rt; tally.join(&ab, counts(u32::MAX, 3)).is_ok());
+        assert!(rt; tally.join(&ab, counts(5, 4)).is_ok());
+        let held = tally.value(&ab);
         assert_eq!(rt; held.good, u32::MAX);
         assert_eq!(rt; held.bad, 7);
         assert_eq!(rt; tally.count(), 1);
@@ -78,7 +77,7 @@ mod tests {
     fn counts_of_0_make_no_entry(rt: HostRuntime) -> Result<(), Fail> {
         let mut cells = [old_cell(counts(1, 2)); 16];
         let mut tally = Tally::new(&mut cells);
-        assert!(rt; tally.add(&read(b"a1b")?.spelling, counts(0, 0)).is_ok());
+        assert!(rt; tally.join(&read(b"a1b")?.spelling, counts(0, 0)).is_ok());
         assert_eq!(rt; tally.count(), 0);
         assert!(rt; tally.least().is_none());
         Ok(())

@@ -1,8 +1,7 @@
 //! The type of a tree book.
 ghost use Rattle.std.specs.Prelude.{◌≡◌, ℕ, ◌<◌, List, length, slice_index};
 ghost use Rattle.books.specs.Maps.{lookup};
-ghost use Rattle.tree.specs.Stands.{Stands};
-ghost use Rattle.tree.specs.RowKind.{row_kind, no_row};
+ghost use Rattle.tree.specs.RowKind.{no_row};
 ghost use Rattle.makes.specs.TreeBooks.{rows};
 
 use patterns::pattern::Row;
@@ -12,7 +11,6 @@ use tree::tree::Tree;
 #[derive(Drop)]
 pub struct TreeBook<'a> {
     pub(crate) tree: Tree<'a, Row>,
-    ghost stands: { ∥ Stands row_kind tree.cells.now tree.used tree.count ∥₁ },
     // no row has a value beyond the last place of its spelling
-    ghost bounded: { (u : List ℕ) (k : ℕ) → length u < k → slice_index (lookup no_row (rows tree) u).values k ≡ 0 },
+    ghost bounded: { (u : List ℕ) (k : ℕ) → length u < k → slice_index (lookup no_row (rows tree.linked) u).values k ≡ 0 },
 }

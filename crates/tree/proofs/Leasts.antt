@@ -1,8 +1,9 @@
 -- The first spelling in the order, of all cells and of those that hold something.
-use Rattle.std.proofs.Common.{◌≡◌, ℕ, zero, suc, ◌+◌, ◌<◌, true, false, cond, not, eqb, ◌≢◌, List, [], ◌∷◌, ◌++◌, length, get_or, take, set, Some, None, sym, refl, ap, ◌∙◌, subst, ap₂, ⊎_elim, add-one, arith}
+use Rattle.std.proofs.Common.{◌≡◌, ℕ, zero, suc, ◌+◌, ◌<◌, true, false, not, ◌≢◌, List, [], ◌∷◌, ◌++◌, length, get_or, take, set, Some, None, Option, sym, refl, ap, ◌∙◌, subst, ap₂, ⊎_elim, add-one, arith}
 use Rattle.std.proofs.lemmas.List.{length_push, length-set, take_more_set, take_at, get_or-set_other, take_all, get_or-map}
-use Rattle.std.proofs.lemmas.Bool.{cases_Bool, both_ways, not-true, false≢true, eqb-true, eqb-false, cond-true, cond-false}
+use Rattle.std.proofs.lemmas.Bool.{cases_Bool, both_ways, not-true, false≢true}
 use Rattle.std.proofs.ByRecursion.{All-weaker}
+use Rattle.std.specs.Option.{option_or}
 use Rattle.patterns.specs.Spellings.{longest, any_above_zero}
 use Rattle.patterns.specs.Order.{before}
 use Rattle.patterns.proofs.Ordered.{total_order}
@@ -11,6 +12,7 @@ use Rattle.books.proofs.Mapping.{Stand, first, equal, later, stand, before_turne
 use Rattle.tree.specs.declared.cell.Link.{Link}
 use Rattle.tree.specs.declared.cell.Cell.{Cell}
 use Rattle.tree.specs.declared.order.Turn.{Turn}
+use Rattle.tree.specs.Numbers.{cell_of}
 use Rattle.tree.specs.Cells.{links, values, ups, at, Shape, Child, Above}
 use Rattle.tree.specs.Paths.{path, spelling_at}
 use Rattle.tree.specs.Kinds.{Kind}
@@ -18,7 +20,8 @@ use Rattle.tree.specs.Meanings.{meaning}
 use Rattle.tree.specs.Rules.{Ruled}
 use Rattle.tree.specs.Descents.{value_at}
 use Rattle.tree.specs.Stands.{Stands}
-use Rattle.tree.specs.Leasts.{Written, Passed, Next, Onward, FirstFrom}
+use Rattle.tree.specs.Leasts.{Written, turning, Passed, Next, Onward, FirstFrom}
+use Rattle.tree.proofs.Numbers.{cell_cases}
 use Rattle.tree.proofs.Walks.{read}
 use Rattle.tree.proofs.Paths.{path_inj, child_path, child_there, lost}
 use Rattle.tree.proofs.Putting.{solid, holds_bare}
@@ -46,8 +49,8 @@ written_more w len symbols x h a = record {
 
 module _ (ls : List Link) (up : ℕ → ℕ) (used : ℕ) (shape : Shape ls up used) where
   module _ (u : List ℕ) where
-    pub passed_none : Passed ls up used u 0 0 0
-    passed_none = record { found = λ ne. absurd (ne refl); first = λ i hi b ne. absurd (ne refl) }
+    pub passed_none : Passed ls up used u 0 None
+    passed_none i hi b = refl
 
     module _ (n p : ℕ) (hn : n < length u) (hp : p < used) (e : path ls up p ≡ take n u) where
       -- the cells that turn off just here
@@ -58,29 +61,24 @@ module _ (ls : List Link) (up : ℕ → ℕ) (used : ℕ) (shape : Shape ls up u
           (k.0, t.1, k.1, k.2, k.3, omega (arith, t.2, k.4), t.3 ∙ ap (λ (x : ℕ). take n u ++ x ∷ t.1) (sym k.4))
 
       -- some child of p comes after u
-      passed_above : (r d s : ℕ) → Passed ls up used u n r d → Above ls up used p (get_or u n 0) s → s ≢ 0 → Passed ls up used u (n + 1) s n
-      passed_above r d s ps ab ns =
-          let f = ab.found ns in
-          let es = child_path ls up used shape p s ns f.0 f.1 ∙ ap (λ (x : List ℕ). x ++ ((at ls s).symbol ∷ [])) e in
-          record {
-            found = λ _. record {
-              within = f.0;
+      passed_above : (s : ℕ) → Above ls up used p (get_or u n 0) (Some s) → Passed ls up used u (n + 1) (Some (record { cell = s; depth = n }))
+      passed_above s ab =
+          let es = child_path ls up used shape p s ab.0 ab.1 ab.2 ∙ ap (λ (x : List ℕ). x ++ ((at ls s).symbol ∷ [])) e in (
+            record {
+              inner = ab.0;
+              within = ab.1;
               inside = omega arith;
               spelled = es;
-              later = ap (before u) es ∙ turned_after n u (at ls s).symbol [] hn f.2;
-            };
-            first = λ i hi b ne. (
-              ns,
-              ⊎_elim
-                  (λ (same : take n (path ls up i) ≡ take n u).
-                  let k = here i hi b same ne in
-                  let l = ab.first k.0 k.2 k.3 k.4 k.5 in
-                  ap₂ before k.6 es ∙ not_before (take n u) (at ls s).symbol (at ls k.0).symbol k.1 l.1)
-                  (λ (off : take n (path ls up i) ≡ take n u → ⊥).
-                  before_turned (path ls up s) (path ls up i) (beyond n u (path ls up i) (path ls up s) (omega arith) b off (ap (take n) es ∙ take_front)))
-                  (same_or (take n (path ls up i)) (take n u)),
-            );
-          }
+              later = ap (before u) es ∙ turned_after n u (at ls s).symbol [] hn ab.3;
+            },
+            λ i hi b ne. ⊎_elim
+                (λ (same : take n (path ls up i) ≡ take n u).
+                let k = here i hi b same ne in
+                ap₂ before k.6 es ∙ not_before (take n u) (at ls s).symbol (at ls k.0).symbol k.1 (ab.4 k.0 k.2 k.3 k.4 k.5))
+                (λ (off : take n (path ls up i) ≡ take n u → ⊥).
+                before_turned (path ls up s) (path ls up i) (beyond n u (path ls up i) (path ls up s) (omega arith) b off (ap (take n) es ∙ take_front)))
+                (same_or (take n (path ls up i)) (take n u)),
+          )
         where
           take_front : take n (take n u ++ ((at ls s).symbol ∷ [])) ≡ take n u
           take_front = take_at (take n u) ((at ls s).symbol ∷ []) n (length_front n u hn)
@@ -91,28 +89,31 @@ module _ (ls : List Link) (up : ℕ → ℕ) (used : ℕ) (shape : Shape ls up u
               length_front (suc m) (y ∷ w) h = ap suc (length_front m w (omega arith))
 
       -- none does
-      passed_same : (r d s : ℕ) → Passed ls up used u n r d → Above ls up used p (get_or u n 0) s → s ≡ 0 → Passed ls up used u (n + 1) r d
-      passed_same r d s ps ab z = record {
-        found = ps.found;
-        first = λ i hi b ne. ⊎_elim
-            (λ (same : take n (path ls up i) ≡ take n u). let k = here i hi b same ne in absurd ((ab.first k.0 k.2 k.3 k.4 k.5).0 z))
-            (λ (off : take n (path ls up i) ≡ take n u → ⊥). ps.first i hi b off)
-            (same_or (take n (path ls up i)) (take n u));
-      }
+      passed_same : (o : Option Turn) → Passed ls up used u n o → Above ls up used p (get_or u n 0) None → Passed ls up used u (n + 1) o
+      passed_same (Some t) ps ab = (
+        ps.0,
+        λ i hi b ne. ⊎_elim
+            (λ (same : take n (path ls up i) ≡ take n u). let k = here i hi b same ne in absurd (omega (arith, ab k.0 k.2 k.3 k.4, k.5)))
+            (λ (off : take n (path ls up i) ≡ take n u → ⊥). ps.1 i hi b off)
+            (same_or (take n (path ls up i)) (take n u)),
+      )
+      passed_same None ps ab = λ i hi b. ⊎_elim
+          (λ (same : take (n + 1) (path ls up i) ≡ take (n + 1) u). same)
+          (λ (ne : take (n + 1) (path ls up i) ≡ take (n + 1) u → ⊥). let k = here i hi b (ps i hi b) ne in absurd (omega (arith, ab k.0 k.2 k.3 k.4, k.5)))
+          (same_or (take (n + 1) (path ls up i)) (take (n + 1) u))
 
       -- the better of the two
-      pub passed_more : (t : Turn) (s : ℕ) → Passed ls up used u n t.cell t.depth → Above ls up used p (get_or u n 0) s → (b : Turn) → b ≡ cond (eqb s 0) t (record { cell = s; depth = n }) → Passed ls up used u (n + 1) b.cell b.depth
-      passed_more t s ps ab b e = ⊎_elim
-          (λ (z : eqb s 0 ≡ true). subst (λ (x : Turn). Passed ls up used u (n + 1) x.cell x.depth) (sym (e ∙ cond-true (eqb s 0) t (record { cell = s; depth = n }) z)) (passed_same t.cell t.depth s ps ab (eqb-true s 0 z)))
-          (λ (z : eqb s 0 ≡ false). subst (λ (x : Turn). Passed ls up used u (n + 1) x.cell x.depth) (sym (e ∙ cond-false (eqb s 0) t (record { cell = s; depth = n }) z)) (passed_above t.cell t.depth s ps ab (eqb-false s 0 z)))
-          (cases_Bool (eqb s 0))
+      pub passed_more : (o : Option Turn) (s : Option ℕ) → Passed ls up used u n o → Above ls up used p (get_or u n 0) s → Passed ls up used u (n + 1) (option_or (turning s n) o)
+      passed_more o (Some s) ps ab = passed_above s ab
+      passed_more o None ps ab = passed_same o ps ab
 
       -- the way along u ends here
-      pub next_lost : (r d s : ℕ) → Passed ls up used u (n + 1) r d → Child ls up used p (get_or u n 0) s → s ≡ 0 → Next ls up used u r d
-      next_lost r d s ps ch z = record {
-        found = ps.found;
-        first = λ i hi b. ps.first i hi b (λ same. lost ls up used shape u p n hp hn e s ch z i hi same);
-      }
+      pub next_lost : (o : Option Turn) → Passed ls up used u (n + 1) o → Child ls up used p (get_or u n 0) None → Next ls up used u o
+      next_lost (Some t) ps ch = (ps.0, λ i hi b. ps.1 i hi b (λ same. lost ls up used shape u p n hp hn e ch i hi same))
+      next_lost None ps ch = λ i hi. ⊎_elim
+          (λ (b : before u (path ls up i) ≡ true). absurd (lost ls up used shape u p n hp hn e ch i hi (ps i hi b)))
+          (λ (b : before u (path ls up i) ≡ false). b)
+          (cases_Bool (before u (path ls up i)))
 
     module _ (p : ℕ) (hp : p < used) (e : path ls up p ≡ u) where
       -- the cells that go on from u
@@ -123,37 +124,40 @@ module _ (ls : List Link) (up : ℕ → ℕ) (used : ℕ) (shape : Shape ls up u
           (k.0, g.1, k.1, k.2, k.3, g.2 ∙ ap (λ (x : ℕ). u ++ x ∷ g.1) (sym k.4))
 
       -- u has a child
-      pub next_first : (r d : ℕ) → Passed ls up used u (length u) r d → (at ls p).first ≢ 0 → Next ls up used u (at ls p).first (length u)
-      next_first r d ps ne =
+      next_first : (at ls p).first ≢ 0 → Next ls up used u (Some (record { cell = (at ls p).first; depth = length u }))
+      next_first ne =
           let j = (at ls p).first in
           let f = shape.firsts p hp ne in
-          let ej : path ls up j ≡ u ++ ((at ls j).symbol ∷ []) = child_path ls up used shape p j ne f.0 f.1 ∙ ap (λ (x : List ℕ). x ++ ((at ls j).symbol ∷ [])) e in
-          record {
-            found = λ _. record {
+          let pos : 0 < j = omega arith in
+          let ej : path ls up j ≡ u ++ ((at ls j).symbol ∷ []) = child_path ls up used shape p j pos f.0 f.1 ∙ ap (λ (x : List ℕ). x ++ ((at ls j).symbol ∷ [])) e in (
+            record {
+              inner = pos;
               within = f.0;
               inside = omega arith;
               spelled = ej ∙ ap (λ (x : List ℕ). x ++ ((at ls j).symbol ∷ [])) (sym (take_all (length u) u (omega arith)));
               later = total_order.shorter u (path ls up j) (record { next = (at ls j).symbol; rest = []; whole = ej });
-            };
-            first = λ i hi b. (
-              ne,
-              ⊎_elim
-                  (λ (same : take (length u) (path ls up i) ≡ take (length u) u).
-                  let k = on i hi b same in
-                  let l = shape.least p k.0 k.2 k.3 k.4 in
-                  ap₂ before k.5 ej ∙ not_before u (at ls j).symbol (at ls k.0).symbol k.1 l.1)
-                  (λ (off : take (length u) (path ls up i) ≡ take (length u) u → ⊥).
-                  before_turned (path ls up j) (path ls up i) (beyond (length u) u (path ls up i) (path ls up j) (omega arith) b off (ap (take (length u)) ej ∙ take_at u ((at ls j).symbol ∷ []) (length u) refl ∙ sym (take_all (length u) u (omega arith)))))
-                  (same_or (take (length u) (path ls up i)) (take (length u) u)),
-            );
-          }
+            },
+            λ i hi b. ⊎_elim
+                (λ (same : take (length u) (path ls up i) ≡ take (length u) u).
+                let k = on i hi b same in
+                let l = shape.least p k.0 k.2 k.3 k.4 in
+                ap₂ before k.5 ej ∙ not_before u (at ls j).symbol (at ls k.0).symbol k.1 l.1)
+                (λ (off : take (length u) (path ls up i) ≡ take (length u) u → ⊥).
+                before_turned (path ls up j) (path ls up i) (beyond (length u) u (path ls up i) (path ls up j) (omega arith) b off (ap (take (length u)) ej ∙ take_at u ((at ls j).symbol ∷ []) (length u) refl ∙ sym (take_all (length u) u (omega arith)))))
+                (same_or (take (length u) (path ls up i)) (take (length u) u)),
+          )
 
       -- it has none
-      pub next_none : (r d : ℕ) → Passed ls up used u (length u) r d → (at ls p).first ≡ 0 → Next ls up used u r d
-      next_none r d ps z = record {
-        found = ps.found;
-        first = λ i hi b. ps.first i hi b (λ same. let k = on i hi b same in (shape.least p k.0 k.2 k.3 k.4).0 z);
-      }
+      next_none : (o : Option Turn) → Passed ls up used u (length u) o → (at ls p).first ≡ 0 → Next ls up used u o
+      next_none (Some t) ps z = (ps.0, λ i hi b. ps.1 i hi b (λ same. let k = on i hi b same in (shape.least p k.0 k.2 k.3 k.4).0 z))
+      next_none None ps z = λ i hi. ⊎_elim
+          (λ (b : before u (path ls up i) ≡ true). let k = on i hi b (ps i hi b) in absurd ((shape.least p k.0 k.2 k.3 k.4).0 z))
+          (λ (b : before u (path ls up i) ≡ false). b)
+          (cases_Bool (before u (path ls up i)))
+
+      -- the way along u ends where u does
+      pub next_ended : (o : Option Turn) → Passed ls up used u (length u) o → Next ls up used u (option_or (turning (cell_of (at ls p).first) (length u)) o)
+      next_ended o ps = cell_cases (λ s. Next ls up used u (option_or (turning s (length u)) o)) (at ls p).first (next_none o ps) next_first
 
 -- ---- from a cell down to one that holds something
 
@@ -179,7 +183,7 @@ module _ {V : Type 0} (K : Kind V) (cs : List (Cell V)) (used count s : ℕ) (st
       let up = ups cs used in
       let f = st.tree.firsts p hp ne in
       let j = (at ls p).first in
-      let ej = child_path ls up used st.tree p j ne f.0 f.1 in
+      let ej = child_path ls up used st.tree p j (omega arith) f.0 f.1 in
       let pj : before (path ls up p) (path ls up j) ≡ true = total_order.shorter (path ls up p) (path ls up j) (record { next = (at ls j).symbol; rest = []; whole = ej }) in
       record {
         on = ⊎_elim
@@ -199,7 +203,7 @@ module _ {V : Type 0} (K : Kind V) (cs : List (Cell V)) (used count s : ℕ) (st
       between_none i hi held b t (later l x) =
           let f = st.tree.firsts p hp ne in
           let j = (at (links cs) p).first in
-          let ej = child_path (links cs) (ups cs used) used st.tree p j ne f.0 f.1 in
+          let ej = child_path (links cs) (ups cs used) used st.tree p j (omega arith) f.0 f.1 in
           let bt = between (spelling_at cs used p) (spelling_at cs used i) (at (links cs) j).symbol l (ap (before (spelling_at cs used i)) (sym ej) ∙ t) in
           let k = child_there (links cs) (ups cs used) used st.tree p i bt.0 bt.1 hp hi bt.3 in
           let lk = st.tree.least p k.0 k.1 k.2 k.3 in
@@ -218,7 +222,7 @@ module _ {V : Type 0} (K : Kind V) (cs : List (Cell V)) (used count s : ℕ) (st
       let ne = inner_first p pp hp bare in
       let j = (at (links cs) p).first in
       let f = st.tree.firsts p hp ne in
-      let ej = child_path (links cs) (ups cs used) used st.tree p j ne f.0 f.1 in
+      let ej = child_path (links cs) (ups cs used) used st.tree p j (omega arith) f.0 f.1 in
       let n = written_length (spelling_at cs used p) len symbols w in
       let nj = ap length ej ∙ length_push (spelling_at cs used p) (at (links cs) j).symbol in
       let room : len < longest = omega (arith, st.shallow j f.0) in
@@ -253,27 +257,27 @@ module _ {V : Type 0} (K : Kind V) (cs : List (Cell V)) (used count : ℕ) (st :
       let i = meant_held K (links cs) (ups cs used) (values cs) used x (solid K (lookup K.nothing (meaning K cs used) x) f) in
       (i.0, i.1, i.2, ap K.bare (sym (cell_value K cs used st.tree i.0 i.1) ∙ ap (lookup K.nothing (meaning K cs used)) i.2) ∙ f)
 
-  pub least_is : (r d : ℕ) (w : List ℕ) → Next (links cs) (ups cs used) used u r d → r ≢ 0 → FirstFrom K cs used r w → least_of (after u (meaning K cs used)) ≡ Some w
-  least_is r d w nx ne fr =
-      let t = nx.found ne in
-      let uw : before u w ≡ true = ahead (stand w (spelling_at cs used r)) t.later in
+  pub least_is : (t : Turn) (w : List ℕ) → Next (links cs) (ups cs used) used u (Some t) → FirstFrom K cs used t.cell w → least_of (after u (meaning K cs used)) ≡ Some w
+  least_is t w nx fr =
+      let r = t.cell in
+      let uw : before u w ≡ true = ahead (stand w (spelling_at cs used r)) nx.0.later in
       least_passing (λ x. before u x) (meaning K cs used) w (means_sound K cs used st.tree).ascends
       (subst (λ (x : List ℕ). holds (meaning K cs used) x ≡ true) fr.spelled (held_at K cs used count r st fr.cell fr.within fr.held))
       uw
       (λ x hx ux.
       let i = at_cell x hx in
-      let lo = nx.first i.0 i.1 (ap (before u) i.2 ∙ ux) in
-      ap (λ (y : List ℕ). before y w) (sym i.2) ∙ fr.onward.first i.0 i.1 i.3 lo.1)
+      let lo = nx.1 i.0 i.1 (ap (before u) i.2 ∙ ux) in
+      ap (λ (y : List ℕ). before y w) (sym i.2) ∙ fr.onward.first i.0 i.1 i.3 lo)
     where
-      ahead : Stand w (spelling_at cs used r) → before u (spelling_at cs used r) ≡ true → before u w ≡ true
-      ahead (first l o) b = absurd (both_ways (before w (spelling_at cs used r)) fr.onward.on l)
+      ahead : Stand w (spelling_at cs used t.cell) → before u (spelling_at cs used t.cell) ≡ true → before u w ≡ true
+      ahead (first l o) b = absurd (both_ways (before w (spelling_at cs used t.cell)) fr.onward.on l)
       ahead (equal l o) b = ap (before u) l ∙ b
-      ahead (later l o) b = total_order.along u (spelling_at cs used r) w b l
+      ahead (later l o) b = total_order.along u (spelling_at cs used t.cell) w b l
 
-  pub least_absent : (r d : ℕ) → Next (links cs) (ups cs used) used u r d → r ≡ 0 → least_of (after u (meaning K cs used)) ≡ None
-  least_absent r d nx z = least_none (λ x. before u x) (meaning K cs used) (λ x hx ux.
+  pub least_absent : Next (links cs) (ups cs used) used u None → least_of (after u (meaning K cs used)) ≡ None
+  least_absent nx = least_none (λ x. before u x) (meaning K cs used) (λ x hx ux.
       let i = at_cell x hx in
-      (nx.first i.0 i.1 (ap (before u) i.2 ∙ ux)).0 z)
+      both_ways (before u x) (ap (before u) (sym i.2) ∙ nx i.0 i.1) ux)
 
   -- every spelling held comes after the empty one
   pub after_none : after [] (meaning K cs used) ≡ meaning K cs used

@@ -1,3 +1,4 @@
+pub mod Numbers
 pub mod Parents
 pub mod Walks
 pub mod Paths
@@ -14,3 +15,4 @@ pub mod Spelt
 pub mod Held
 pub mod Reordered
 pub mod Props
+pub mod Adds

@@ -1,5 +1,5 @@
 -- The spellings of cells.
-use Rattle.std.proofs.Common.{◌≡◌, ℕ, zero, suc, ◌+◌, ◌<◌, ◌≤◌, ◌≢◌, ◌⊎◌, List, [], ◌∷◌, ◌++◌, length, get_or, take, drop, sym, refl, ap, ◌∙◌, ap₂, inl, inr, ⊎_elim, append_assoc, arith}
+use Rattle.std.proofs.Common.{◌≡◌, ℕ, zero, suc, ◌+◌, ◌<◌, ◌≤◌, ◌≢◌, ◌⊎◌, List, [], ◌∷◌, ◌++◌, length, get_or, take, drop, Some, None, sym, refl, ap, ◌∙◌, ap₂, inl, inr, ⊎_elim, append_assoc, arith}
 use Rattle.std.proofs.lemmas.List.{length-append, length_push, take_more, take_at, take_all, take-append-le, take-append-drop, get_or_at, same_from_push}
 use Rattle.std.proofs.lemmas.Bool.{cases_eq, cases_lt}
 use Rattle.tree.specs.declared.cell.Link.{Link}
@@ -87,8 +87,8 @@ module _ (ls : List Link) (up : ℕ → ℕ) (used : ℕ) (shape : Shape ls up u
   pub ancestor : (i n : ℕ) → i < used → n ≤ length (path ls up i) → (k : ℕ) × (k < used) × (path ls up k ≡ take n (path ls up i))
   ancestor i n hi hn = ancestor_f i i n (omega arith) hi hn
 
-  pub child_path : (p r : ℕ) → r ≢ 0 → r < used → up r ≡ p → path ls up r ≡ path ls up p ++ ((at ls r).symbol ∷ [])
-  child_path p r ne hr eu = path_step r (omega arith) hr ∙ ap (λ (x : ℕ). path ls up x ++ ((at ls r).symbol ∷ [])) eu
+  pub child_path : (p r : ℕ) → 0 < r → r < used → up r ≡ p → path ls up r ≡ path ls up p ++ ((at ls r).symbol ∷ [])
+  child_path p r pos hr eu = path_step r pos hr ∙ ap (λ (x : ℕ). path ls up x ++ ((at ls r).symbol ∷ [])) eu
 
   -- where a spelling goes on from that of p by t, p has a child t
   pub child_there : (p i t : ℕ) (r : List ℕ) → p < used → i < used → path ls up i ≡ path ls up p ++ t ∷ r → (k : ℕ) × (0 < k) × (k < used) × (up k ≡ p) × ((at ls k).symbol ≡ t)
@@ -110,8 +110,8 @@ module _ (ls : List Link) (up : ℕ → ℕ) (used : ℕ) (shape : Shape ls up u
       (k, pk, a.1, path_inj (up k) p (omega arith) hp both.0, both.1)
 
   -- where the way down along w has no next cell, no spelling goes on along it
-  pub lost : (w : List ℕ) (p n : ℕ) → p < used → n < length w → path ls up p ≡ take n w → (s : ℕ) → Child ls up used p (get_or w n 0) s → s ≡ 0 → (i : ℕ) → i < used → take (n + 1) (path ls up i) ≡ take (n + 1) w → ⊥
-  lost w p n hp hn e s ch z i hi same =
+  pub lost : (w : List ℕ) (p n : ℕ) → p < used → n < length w → path ls up p ≡ take n w → Child ls up used p (get_or w n 0) None → (i : ℕ) → i < used → take (n + 1) (path ls up i) ≡ take (n + 1) w → ⊥
+  lost w p n hp hn e ch i hi same =
       let x = path ls up i in
       let ex : x ≡ path ls up p ++ get_or w n 0 ∷ drop (n + 1) x =
       sym (take-append-drop (n + 1) x)
@@ -119,10 +119,8 @@ module _ (ls : List Link) (up : ℕ → ℕ) (used : ℕ) (shape : Shape ls up u
       ∙ append_assoc (take n w) (get_or w n 0 ∷ []) (drop (n + 1) x)
       ∙ ap (λ (y : List ℕ). y ++ get_or w n 0 ∷ drop (n + 1) x) (sym e) in
       let k = child_there p i (get_or w n 0) (drop (n + 1) x) hp hi ex in
-      ch.missing z k.0 k.1 k.2 k.3 k.4
+      ch k.0 k.1 k.2 k.3 k.4
 
   -- one symbol further down
-  pub further : (w : List ℕ) (p n r : ℕ) → n < length w → path ls up p ≡ take n w → r ≢ 0 → Child ls up used p (get_or w n 0) r → path ls up r ≡ take (n + 1) w
-  further w p n r hn e ne ch =
-      let f = ch.found ne in
-      child_path p r ne f.0 f.1 ∙ ap₂ (λ (x : List ℕ) (y : ℕ). x ++ (y ∷ [])) e f.2 ∙ sym (take_more w n 0 hn)
+  pub further : (w : List ℕ) (p n r : ℕ) → n < length w → path ls up p ≡ take n w → Child ls up used p (get_or w n 0) (Some r) → path ls up r ≡ take (n + 1) w
+  further w p n r hn e ch = child_path p r ch.0 ch.1 ch.2 ∙ ap₂ (λ (x : List ℕ) (y : ℕ). x ++ (y ∷ [])) e ch.3 ∙ sym (take_more w n 0 hn)

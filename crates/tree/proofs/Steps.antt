@@ -1,7 +1,7 @@
 -- Steps down a spelling.
-use Rattle.std.proofs.Common.{◌≡◌, ℕ, ◌+◌, ◌<◌, ◌≤◌, ◌≢◌, List, [], ◌∷◌, ◌++◌, length, get_or, take, sym, refl, ap, ◌∙◌, ⊎_elim, add-one, arith, length-take}
+use Rattle.std.proofs.Common.{◌≡◌, ℕ, ◌+◌, ◌<◌, ◌≤◌, ◌≢◌, List, [], ◌∷◌, ◌++◌, length, get_or, sym, refl, ap, ◌∙◌, ⊎_elim, add-one, arith}
 use Rattle.std.proofs.lemmas.Bool.{cases_lt}
-use Rattle.std.proofs.lemmas.List.{length_push, take_more}
+use Rattle.std.proofs.lemmas.List.{length_push}
 use Rattle.patterns.specs.Spellings.{longest}
 use Rattle.tree.specs.declared.cell.Cell.{Cell}
 use Rattle.tree.specs.Cells.{links, values, at, ups, IsTree, Gap, Grown, Kept, Extends}
@@ -93,21 +93,3 @@ module _ {V : Type 0} (K : Kind V) (cs : List (Cell V)) (used : ℕ) where
     shallow = sh;
     root = refl;
   }
-
-  pub descent_more : (cs₁ cs₂ : List (Cell V)) (u₁ u₂ n p r : ℕ) (w : List ℕ) → n < length w → length w ≤ longest → Descent K cs cs₁ used u₁ (take n w) p → Step K cs₁ cs₂ u₁ u₂ p (get_or w n 0) r → Descent K cs cs₂ used u₂ (take (n + 1) w) r
-  descent_more cs₁ cs₂ u₁ u₂ n p r w hn short d st =
-      let e = take_more w n 0 hn in
-      let l1 : length (take (n + 1) w) ≡ length (take n w) + 1 = ap length e ∙ length_push (take n w) (get_or w n 0) in
-      let lp : length (spelling_at cs₁ u₁ p) ≡ length (take n w) = ap length d.spelled in
-      let ln : length (take n w) < longest = omega (arith, length-take n w) in
-      record {
-        tree = st.tree;
-        size = st.size ∙ d.size;
-        few = omega (arith, st.few, d.few);
-        within = st.within;
-        spelled = st.spelled ∙ ap (λ (x : List ℕ). x ++ (get_or w n 0 ∷ [])) d.spelled ∙ sym e;
-        means = st.means ∙ d.means;
-        leaves = st.leaves d.leaves;
-        shallow = st.shallow (omega arith) d.shallow;
-        root = st.root ∙ d.root;
-      }

@@ -1,5 +1,5 @@
 -- What is looked up in a tree, and a value joined in it.
-use Rattle.std.proofs.Common.{◌≡◌, ℕ, suc, ◌+◌, ◌-◌, ◌*◌, ◌/◌, ◌<◌, ◌≤◌, Bool, true, false, not, ◌||◌, ltb, ◌≢◌, List, length, get_or, set, sym, refl, ap, ◌∙◌, subst, ⊎_elim, add-one, arith}
+use Rattle.std.proofs.Common.{◌≡◌, ℕ, suc, ◌+◌, ◌-◌, ◌*◌, ◌/◌, ◌<◌, ◌≤◌, Bool, true, false, not, ◌||◌, ltb, ◌≢◌, List, length, get_or, set, Some, None, sym, refl, ap, ◌∙◌, subst, ⊎_elim, add-one, arith}
 use lib.Seq.{map-set_same}
 use Rattle.std.specs.List.{AllByRecursion}
 use Rattle.std.proofs.lemmas.Bool.{cases_eq, cases_lt, cases_Bool, lt-ltb, le-ltb, or_left, cond-true, cond-false}
@@ -13,9 +13,9 @@ use Rattle.tree.specs.Kinds.{Kind}
 use Rattle.tree.specs.Meanings.{Sound, meant, meaning, put}
 use Rattle.tree.specs.Descents.{Descent, value_at}
 use Rattle.tree.specs.Rules.{Ruled}
-use Rattle.tree.specs.Stands.{limit_of, Stands, Holding, JoinedAt, allowed, Accepted}
+use Rattle.tree.specs.Stands.{limit_of, Stands, JoinedAt, allowed, Accepted}
 use Rattle.tree.proofs.Paths.{path_inj, path_root}
-use Rattle.tree.proofs.Putting.{solid, put_bare, put_length, put_all, holds_bare}
+use Rattle.tree.proofs.Putting.{put_bare, put_length, put_all, holds_bare}
 use Rattle.tree.proofs.Means.{meant_missing, meant_found, meant_sound, meant_joined}
 
 -- ---- look-ups
@@ -28,28 +28,16 @@ module _ {V : Type 0} (K : Kind V) (cs : List (Cell V)) (used : ℕ) (tree : IsT
   pub cell_value : (r : ℕ) → r < used → lookup K.nothing (meaning K cs used) (spelling_at cs used r) ≡ value_at K cs r
   cell_value r hr = meant_found K (links cs) (ups cs used) (values cs) used r (spelling_at cs used r) hr refl (λ i hi e. path_inj (links cs) (ups cs used) used tree i r hi hr e)
 
-  module _ (w : List ℕ) (some : 0 < length w) where
+  module _ (w : List ℕ) where
     -- a cell that spells w is no root
-    pub not_root : (i : ℕ) → spelling_at cs used i ≡ w → i ≢ 0
-    not_root i e z = let l : length w ≡ 0 = sym (ap length e) ∙ ap (λ (x : ℕ). length (spelling_at cs used x)) z ∙ ap length (path_root (links cs) (ups cs used) used tree) in omega arith
+    pub not_root : 0 < length w → (i : ℕ) → spelling_at cs used i ≡ w → i ≢ 0
+    not_root some i e z = let l : length w ≡ 0 = sym (ap length e) ∙ ap (λ (x : ℕ). length (spelling_at cs used x)) z ∙ ap length (path_root (links cs) (ups cs used) used tree) in omega arith
 
-    pub sought_none : Found (links cs) (ups cs used) used w 0 → K.nothing ≡ lookup K.nothing (meaning K cs used) w
-    sought_none f = sym (meant_missing K (links cs) (ups cs used) (values cs) used w (λ i h e. let ne = not_root i e in f.missing refl i (omega arith) h e))
+    pub sought_none : Found (links cs) (ups cs used) used w None → lookup K.nothing (meaning K cs used) w ≡ K.nothing
+    sought_none f = meant_missing K (links cs) (ups cs used) (values cs) used w f
 
-    pub sought_some : (r : ℕ) (c : Cell V) → r ≢ 0 → used ≤ length cs → Found (links cs) (ups cs used) used w r → (get_or cs r c).value ≡ lookup K.nothing (meaning K cs used) w
-    sought_some r c ne room f =
-        let h = f.found ne in
-        sym (get_or-map (λ (x : Cell V). x.value) cs r c K.nothing (omega (arith, h.0)))
-        ∙ sym (cell_value r h.0)
-        ∙ ap (lookup K.nothing (meaning K cs used)) h.1
-
-    -- where something is held, its cell was found
-    pub held_cell : (k : ℕ) → Found (links cs) (ups cs used) used w k → K.bare (lookup K.nothing (meaning K cs used) w) ≡ false → k ≢ 0
-    held_cell k f held z = solid K (lookup K.nothing (meaning K cs used) w) held (sym (sought_none (subst (Found (links cs) (ups cs used) used w) z f)))
-
--- the count is that of the spellings held
-pub holding : {V : Type 0} (K : Kind V) (cs : List (Cell V)) (used count : ℕ) → Stands K cs used count → Holding K cs used
-holding K cs used count st = subst (Stands K cs used) (sym st.counted) st
+    pub sought_some : (r : ℕ) → Found (links cs) (ups cs used) used w (Some r) → lookup K.nothing (meaning K cs used) w ≡ value_at K cs r
+    sought_some r f = ap (lookup K.nothing (meaning K cs used)) (sym f.1) ∙ cell_value r f.0
 
 -- ---- a value joined to that of a cell
 
@@ -151,20 +139,18 @@ module _ {V : Type 0} (K : Kind V) (cs cs₁ cs₂ : List (Cell V)) (used u₁ c
 
 module _ {V : Type 0} (K : Kind V) (cs : List (Cell V)) (used count : ℕ) (w : List ℕ) (st : Stands K cs used count) where
   -- a cell that was found
-  pub stay : (k : ℕ) → k ≢ 0 → Found (links cs) (ups cs used) used w k → Descent K cs cs used used w k
-  stay k ne f =
-      let h = f.found ne in
-      record {
-        tree = st.tree;
-        size = refl;
-        few = omega arith;
-        within = h.0;
-        spelled = h.1;
-        means = refl;
-        leaves = λ i pi hi z nk. st.leaves i pi hi z (omega arith);
-        shallow = st.shallow;
-        root = refl;
-      }
+  pub stay : (k : ℕ) → Found (links cs) (ups cs used) used w (Some k) → Descent K cs cs used used w k
+  stay k f = record {
+    tree = st.tree;
+    size = refl;
+    few = omega arith;
+    within = f.0;
+    spelled = f.1;
+    means = refl;
+    leaves = λ i pi hi z nk. st.leaves i pi hi z (omega arith);
+    shallow = st.shallow;
+    root = refl;
+  }
 
   -- a nothing
   pub joined_nothing : (v : V) → K.bare v ≡ true → K.bare (lookup K.nothing (meaning K cs used) w) ≡ true → count < limit_of (length cs) → Accepted K cs cs used used count w v

@@ -1,7 +1,8 @@
 -- Cells by their links, and what makes these a tree.
-use Rattle.std.specs.Prelude.{◌≡◌, ℕ, zero, suc, ◌-◌, ◌<◌, ◌≤◌, Bool, true, false, cond, ◌≢◌, List, map, ◌==◌, slice_index_or}
+use Rattle.std.specs.Prelude.{◌≡◌, ℕ, zero, suc, ◌-◌, ◌<◌, ◌≤◌, Bool, true, false, cond, ◌≢◌, List, Some, None, Option, map, ◌==◌, slice_index_or}
 use Rattle.tree.specs.declared.cell.Link.{Link}
 use Rattle.tree.specs.declared.cell.Cell.{Cell}
+use Rattle.tree.specs.Numbers.{number_of, Linkable}
 
 -- what stands beyond the cells
 abbrev pub no_link : Link
@@ -68,15 +69,26 @@ pub record Gap (ls : List Link) (up : ℕ → ℕ) (used p s b j : ℕ) : Type 0
   pub walk : Walk ls up used p s b j
   pub reached : j ≢ 0 → s ≤ (at ls j).symbol
 
--- the child of p with the symbol s is r, or there is none and r is 0
-pub record Child (ls : List Link) (up : ℕ → ℕ) (used p s r : ℕ) : Type 0 where
-  pub found : r ≢ 0 → (r < used) × (up r ≡ p) × ((at ls r).symbol ≡ s)
-  pub missing : r ≡ 0 → (i : ℕ) → 0 < i → i < used → up i ≡ p → (at ls i).symbol ≢ s
+-- the same place by its cells: after the cell before, or in front, and before or at the cell here, or at the end
+pub record Placed (ls : List Link) (up : ℕ → ℕ) (used p s : ℕ) (before here : Option ℕ) : Type 0 where
+  pub gap : Gap ls up used p s (number_of before) (number_of here)
+  pub before_inner : Linkable before
+  pub here_inner : Linkable here
 
--- r is the first child of p whose symbol is above s, or there is none and r is 0
-pub record Above (ls : List Link) (up : ℕ → ℕ) (used p s r : ℕ) : Type 0 where
-  pub found : r ≢ 0 → (r < used) × (up r ≡ p) × (s < (at ls r).symbol)
-  pub first : (i : ℕ) → 0 < i → i < used → up i ≡ p → s < (at ls i).symbol → (r ≢ 0) × ((at ls r).symbol ≤ (at ls i).symbol)
+-- the cell here where it has the symbol s, or it has not
+abbrev pub Met : List Link → ℕ → Option ℕ → Option ℕ → Type 0
+Met ls s here (Some r) = (here ≡ Some r) × ((at ls r).symbol ≡ s)
+Met ls s here None = (j : ℕ) → here ≡ Some j → (at ls j).symbol ≢ s
+
+-- the child of p with the symbol s, or there is none
+abbrev pub Child : List Link → (ℕ → ℕ) → ℕ → ℕ → ℕ → Option ℕ → Type 0
+Child ls up used p s (Some r) = (0 < r) × (r < used) × (up r ≡ p) × ((at ls r).symbol ≡ s)
+Child ls up used p s None = (i : ℕ) → 0 < i → i < used → up i ≡ p → (at ls i).symbol ≢ s
+
+-- the first child of p whose symbol is above s, or there is none
+abbrev pub Above : List Link → (ℕ → ℕ) → ℕ → ℕ → ℕ → Option ℕ → Type 0
+Above ls up used p s (Some r) = (0 < r) × (r < used) × (up r ≡ p) × (s < (at ls r).symbol) × ((i : ℕ) → 0 < i → i < used → up i ≡ p → s < (at ls i).symbol → (at ls r).symbol ≤ (at ls i).symbol)
+Above ls up used p s None = (i : ℕ) → 0 < i → i < used → up i ≡ p → (at ls i).symbol ≤ s
 
 -- how many symbols can still come along the siblings from j on
 abbrev pub to_go : List Link → ℕ → ℕ

@@ -1,3 +1,4 @@
+pub mod Numbers
 pub mod Cells
 pub mod Paths
 pub mod Kinds
@@ -5,6 +6,7 @@ pub mod Meanings
 pub mod Descents
 pub mod Rules
 pub mod Stands
+pub mod Holds
 pub mod Leasts
 pub mod Orderless
 pub mod RowKind

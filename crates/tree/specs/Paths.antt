@@ -1,5 +1,5 @@
 -- The spelling of a cell: the symbols on the way down to it.
-use Rattle.std.specs.Prelude.{◌≡◌, ℕ, zero, suc, ◌<◌, ◌≢◌, List, [], ◌∷◌, ◌++◌}
+use Rattle.std.specs.Prelude.{◌≡◌, ℕ, zero, suc, ◌<◌, ◌≢◌, List, [], ◌∷◌, ◌++◌, Some, None, Option}
 use Rattle.tree.specs.declared.cell.Link.{Link}
 use Rattle.tree.specs.declared.cell.Cell.{Cell}
 use Rattle.tree.specs.Cells.{at, links, ups}
@@ -18,7 +18,7 @@ path ls up i = climb i ls up i
 abbrev pub spelling_at : {V : Type 0} → List (Cell V) → ℕ → ℕ → List ℕ
 spelling_at cs used i = path (links cs) (ups cs used) i
 
--- r is the cell of the spelling w, or there is none and r is 0
-pub record Found (ls : List Link) (up : ℕ → ℕ) (used : ℕ) (w : List ℕ) (r : ℕ) : Type 0 where
-  pub found : r ≢ 0 → (r < used) × (path ls up r ≡ w)
-  pub missing : r ≡ 0 → (i : ℕ) → 0 < i → i < used → path ls up i ≢ w
+-- the cell of the spelling w, or there is none
+abbrev pub Found : List Link → (ℕ → ℕ) → ℕ → List ℕ → Option ℕ → Type 0
+Found ls up used w (Some r) = (r < used) × (path ls up r ≡ w)
+Found ls up used w None = (i : ℕ) → i < used → path ls up i ≢ w

@@ -1,7 +1,9 @@
 //! The cells of a spelling tree.
+ghost use Rattle.std.specs.Prelude.{◌≡◌};
+ghost use Rattle.tree.specs.Numbers.{cell_of};
 
-/// The place of a cell in the tree: its symbol, its first child and its next sibling, whose symbol is greater. Cell 0 is the
-/// root, so that 0 stands for no cell.
+/// The place of a cell in the tree: its symbol, its first child and its next sibling, whose symbol is greater. Cells are lent
+/// with any contents, so that a link is a plain number: 0, the number of the root, stands for no cell.
 #[derive(Clone, Copy)]
 pub struct Link {
     pub symbol: u8,
@@ -14,4 +16,27 @@ pub struct Link {
 pub struct Cell<V> {
     pub link: Link,
     pub value: V,
+}
+
+impl Link {
+    // The first child.
+    pub(crate) fn child(self) -> Option<usize>
+        ensures { result ≡ cell_of self.first }
+    {
+        numbered(self.first)
+    }
+
+    // The next sibling.
+    pub(crate) fn sibling(self) -> Option<usize>
+        ensures { result ≡ cell_of self.next }
+    {
+        numbered(self.next)
+    }
+}
+
+// The cell that a link names by a number.
+fn numbered(number: usize) -> Option<usize>
+    ensures { result ≡ cell_of number }
+{
+    if number == 0 { None } else { Some(number) }
 }

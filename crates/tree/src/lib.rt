@@ -7,6 +7,7 @@ mod descend;
 mod grow;
 mod hold;
 pub mod joining;
+pub mod linked;
 mod order;
 pub mod rows;
 mod search;

@@ -16,11 +16,6 @@ impl Joining for Row {
     }
 
     fn is_nothing(self) -> bool {
-        for v in &self.values {
-            if *v > 0 {
-                return false;
-            }
-        }
-        true
+        self.values.iter().all(|value| *value == 0)
     }
 }

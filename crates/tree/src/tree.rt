@@ -1,106 +1,110 @@
-//! The spelling tree. Its calls ask for `Stands`, which says that the cells are a tree, and give it back: a type over one kind
-//! of value keeps it, and asks its caller for nothing.
-ghost use Rattle.std.specs.Prelude.{◌≡◌, [], length};
+//! The spelling tree.
+ghost use Rattle.std.specs.Prelude.{◌≡◌, ◌≤◌, [], length};
 ghost use Rattle.patterns.specs.Views.{symbols_of};
 ghost use Rattle.books.specs.Maps.{lookup, least_of, after};
 ghost use Rattle.books.specs.Calls.{spelling};
-ghost use Rattle.tree.specs.Meanings.{meaning};
-ghost use Rattle.tree.specs.Stands.{limit_of, Stands, TreeJoins};
+ghost use Rattle.tree.specs.Meanings.{Sound};
+ghost use Rattle.tree.specs.Orderless.{AnyOrder};
+ghost use Rattle.tree.specs.Holds.{held, cells_of, most_of};
+ghost use Rattle.tree.specs.Stands.{Stands, TreeJoins, Adding};
 
 use crate::cell::Cell;
 use crate::clear::clear;
-use crate::hold;
 use crate::joining::Joining;
-use crate::order::first_after;
+use crate::linked::Linked;
 use books::book::Full;
 use patterns::pattern::Spelling;
 
-/// Values at spellings: the first `used` cells are a tree that holds `count` spellings.
+/// Values at spellings, over lent cells. The cells are a tree that holds `count` spellings.
 #[derive(Drop)]
-pub struct Tree<'a, V> {
-    pub cells: &'a mut [Cell<V>],
-    pub used: usize,
+pub struct Tree<'a, V: Joining> {
+    pub linked: Linked<'a, V>,
     pub count: usize,
+    ghost stands: { ∥ Stands V.kind linked.cells.now linked.used count ∥₁ },
 }
 
 impl<'a, V: Joining> Tree<'a, V> {
     /// A tree that holds nothing, over cells of any contents.
     pub fn new(cells: &'a mut [Cell<V>]) -> Tree<'a, V>
-        ensures stands { Stands V.kind result.cells.now result.used result.count }
-        ensures none { meaning V.kind result.cells.now result.used ≡ [] }
-        ensures size { length result.cells.now ≡ length cells.old }
+        ensures none { held V.kind result.linked ≡ [] }
+        ensures cells { cells_of result.linked ≡ length cells.old }
     {
         let used = clear(cells);
-        Tree {
-            cells,
-            used,
-            count: 0,
-        }
+        let linked = Linked { cells, used };
+        Tree { linked, count: 0 }
     }
 
-    /// How many spellings the tree can hold.
+    /// How many spellings the tree can hold: 0 below 16 cells, and else a fifteenth of the cells but one.
     pub fn limit(&self) -> usize
-        ensures { result ≡ limit_of (length self.now.cells.now) }
+        ensures value { result ≡ most_of self.now.linked }
+        ensures within { length (held V.kind self.now.linked) ≤ result }
     {
-        hold::limit(self.cells.len())
+        self.linked.cells.len().saturating_sub(1) / 15
     }
 
-    /// How many spellings hold something.
+    /// How many spellings hold something, each in its place in the order and none with a nothing.
     pub fn count(&self) -> usize
-        requires { Stands V.kind self.now.cells.now self.now.used self.now.count }
-        ensures { result ≡ length (meaning V.kind self.now.cells.now self.now.used) }
+        ensures value { result ≡ length (held V.kind self.now.linked) }
+        ensures sound { Sound V.kind (held V.kind self.now.linked) }
     {
         self.count
     }
 
     /// The value at a spelling, or nothing.
     pub fn value(&self, spelling: &Spelling) -> V
-        requires { Stands V.kind self.now.cells.now self.now.used self.now.count }
-        ensures { result ≡ lookup V.kind.nothing (meaning V.kind self.now.cells.now self.now.used) (symbols_of spelling.now) }
+        ensures { result ≡ lookup V.kind.nothing (held V.kind self.now.linked) (symbols_of spelling.now) }
     {
-        let symbols = &spelling.symbols[0..spelling.len];
-        hold::seek(self.cells, self.used, symbols).value
+        match self.linked.find(spelling.symbols()) {
+            Some(cell) => self.linked.cells[cell].value,
+            None => V::nothing(),
+        }
     }
 
     /// The least spelling that holds something.
     pub fn least(&self) -> Option<Spelling>
-        requires { Stands V.kind self.now.cells.now self.now.used self.now.count }
-        ensures { spelling result ≡ least_of (meaning V.kind self.now.cells.now self.now.used) }
+        ensures { spelling result ≡ least_of (held V.kind self.now.linked) }
     {
-        first_after(self.cells, self.used, &[])
+        self.first_after(&[])
     }
 
     /// The least spelling that holds something and comes after another, which may hold something or not.
     pub fn least_after(&self, other: &Spelling) -> Option<Spelling>
-        requires { Stands V.kind self.now.cells.now self.now.used self.now.count }
-        ensures { spelling result ≡ least_of (after (symbols_of other.now) (meaning V.kind self.now.cells.now self.now.used)) }
+        ensures { spelling result ≡ least_of (after (symbols_of other.now) (held V.kind self.now.linked)) }
     {
-        let symbols = &other.symbols[0..other.len];
-        first_after(self.cells, self.used, symbols)
+        self.first_after(other.symbols())
     }
 
-    /// Joins `v` at a spelling.
+    /// Joins `v` at a spelling. A nothing changes nothing. What is held in the end does not depend on the order in which values
+    /// are joined.
     pub fn join(&mut self, spelling: &Spelling, v: V) -> Result<(), Full>
-        requires { Stands V.kind self.old.cells.now self.old.used self.old.count }
-        ensures { TreeJoins V.kind self.old.cells.now self.new.cells.now self.old.used self.new.used self.old.count self.new.count (symbols_of spelling.now) v result }
+        ensures cells { cells_of self.new.linked ≡ cells_of self.old.linked }
+        ensures joined { TreeJoins V.kind self.old.linked.cells.now self.new.linked.cells.now self.old.linked.used self.new.linked.used self.old.count self.new.count (symbols_of spelling.now) v result }
+        ensures added { Adding V.kind (held V.kind self.old.linked) (most_of self.old.linked) (symbols_of spelling.now) v result (held V.kind self.new.linked) }
+        ensures order { AnyOrder V.kind }
     {
-        let used = self.used;
-        let count = self.count;
-        let symbols = &spelling.symbols[0..spelling.len];
-        let filled = hold::join_in(self.cells, used, count, symbols, v)?;
-        self.used = filled.used;
-        self.count = filled.count;
+        let symbols = spelling.symbols();
+        if let Some(cell) = self.holder(symbols) {
+            self.linked.join_at(cell, v);
+            return Ok(());
+        }
+        if self.count >= self.limit() {
+            return Err(Full);
+        }
+        if v.is_nothing() {
+            return Ok(());
+        }
+        let cell = self.linked.descend(symbols);
+        self.linked.join_at(cell, v);
+        self.count += 1;
         Ok(())
     }
 
     /// Drops all; the whole limit can be used again.
     pub fn empty(&mut self)
-        ensures stands { Stands V.kind self.new.cells.now self.new.used self.new.count }
-        ensures none { meaning V.kind self.new.cells.now self.new.used ≡ [] }
-        ensures size { length self.new.cells.now ≡ length self.old.cells.now }
+        ensures cells { cells_of self.new.linked ≡ cells_of self.old.linked }
+        ensures none { held V.kind self.new.linked ≡ [] }
     {
-        let used = clear(self.cells);
-        self.used = used;
+        self.linked.clear();
         self.count = 0;
     }
 }

@@ -1,14 +1,9 @@
 use Rattle.std.proofs.Common.{sym, ap, ◌∙◌}
 use Rattle.patterns.specs.declared.pattern.Row.{Row}
 use Rattle.patterns.specs.Views.{symbols_of}
-use Rattle.tree.specs.RowKind.{row_kind}
 use Rattle.makes.specs.TreeBooks.{rows}
-use Rattle.makes.proofs.Trees.{upright}
 use Rattle.makes.proofs.Booked.{book_lookup}
 use Rattle.makes.proofs.booking.TreeBookReadingBook.row.Goals as goal
 
-pub value-requires : goal.value-requires
-value-requires c = upright row_kind c.args.self.now.tree c.args.self.now.stands
-
 pub returns : goal.returns
-returns c = ap (λ (r : Row). r.values) c.value.ensures ∙ sym (book_lookup (rows c.args.self.now.tree) (symbols_of c.args.spelling.now))
+returns c = ap (λ (r : Row). r.values) c.value.ensures ∙ sym (book_lookup (rows c.args.self.now.tree.linked) (symbols_of c.args.spelling.now))

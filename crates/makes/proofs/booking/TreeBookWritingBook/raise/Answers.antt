@@ -6,12 +6,9 @@ use Rattle.patterns.proofs.Round.{valid_of}
 use Rattle.books.specs.Maps.{Map, holds}
 use Rattle.books.specs.Calls.{Raising}
 use Rattle.books.specs.declared.book.Full.{Full}
-use Rattle.tree.specs.declared.tree.Tree.{Tree}
-use Rattle.tree.specs.Stands.{limit_of, allowed}
+use Rattle.tree.specs.Stands.{limit_of, allowed, Adding}
 use Rattle.tree.specs.RowKind.{row_kind}
-use Rattle.makes.specs.Limits.{most_of}
-use Rattle.makes.specs.TreeBooks.{book_of, rows, booked, Bounded}
-use Rattle.makes.proofs.Trees.{Upright, upright, Leads, leads_upright, leads_size, leads_joined, leads_kept}
+use Rattle.makes.specs.TreeBooks.{book_of, rows, Bounded}
 use Rattle.makes.proofs.Booked.{book_holds, book_joined, joined_bounded}
 use Rattle.makes.proofs.booking.TreeBookWritingBook.raise.Goals as goal
 
@@ -19,34 +16,25 @@ use Rattle.makes.proofs.booking.TreeBookWritingBook.raise.Goals as goal
 allowed_book : (m : Map Row) (limit : ℕ) (u : List ℕ) → (holds (book_of m) u || ltb (length (book_of m)) limit) ≡ allowed m limit u
 allowed_book m limit u = ap₂ (λ (b : Bool) (n : ℕ). b || ltb n limit) (book_holds m u) (length-map m (λ e. (e.0, e.1.values)))
 
-raising : (t t' : Tree Row) (u : List ℕ) (r : Row) (s : Upright row_kind t) (o : Result (Unit {0}) Full) → Leads row_kind t t' u r s o → Raising (booked t) (most_of t) (u, r.values) o (booked t')
-raising t t' u r s (Ok done) j = (allowed_book (rows t) (most_of t) u ∙ j.may, book_joined (rows t) (rows t') u r (leads_joined row_kind t t' u r s j))
-raising t t' u r s (Err full) j = (allowed_book (rows t) (most_of t) u ∙ j.0, ap book_of (leads_kept row_kind t t' u r s full j))
+raising : (m n : Map Row) (limit : ℕ) (u : List ℕ) (r : Row) (o : Result (Unit {0}) Full) → Adding row_kind m limit u r o n → Raising (book_of m) limit (u, r.values) o (book_of n)
+raising m n limit u r (Ok done) j = (allowed_book m limit u ∙ j.0, book_joined m n u r j.1.joined)
+raising m n limit u r (Err full) j = (allowed_book m limit u ∙ j.0, ap book_of j.1)
 
-bounded : (t t' : Tree Row) (u : List ℕ) (r : Row) (s : Upright row_kind t) → ((k : ℕ) → length u < k → get_or r.values k 0 ≡ 0) → Bounded (rows t) → (o : Result (Unit {0}) Full) → Leads row_kind t t' u r s o → Bounded (rows t')
-bounded t t' u r s z b (Ok done) j = joined_bounded (rows t) (rows t') u r z (leads_joined row_kind t t' u r s j) b
-bounded t t' u r s z b (Err full) j = subst Bounded (sym (leads_kept row_kind t t' u r s full j)) b
-
-pub join-requires : goal.join-requires
-join-requires c = upright row_kind c.args.self.now.tree c.args.self.now.stands
+bounded : (m n : Map Row) (limit : ℕ) (u : List ℕ) (r : Row) → ((k : ℕ) → length u < k → get_or r.values k 0 ≡ 0) → Bounded m → (o : Result (Unit {0}) Full) → Adding row_kind m limit u r o n → Bounded n
+bounded m n limit u r z b (Ok done) j = joined_bounded m n u r z j.1.joined b
+bounded m n limit u r z b (Err full) j = subst Bounded (sym j.1) b
 
 pub invariant_of-self : goal.invariant_of-self
 invariant_of-self c =
-    let t = c.args.self.now.tree in
-    let t' = c.join.new.self in
+    let t = c.args.self.now.tree.linked in
     let p = c.args.pattern.now in
-    let u = symbols_of p.spelling in
-    let s = upright row_kind t c.args.self.now.stands in
-    record { stands = ∣ leads_upright row_kind t t' u p.row s c.join.result c.join.ensures ∣₁; bounded = bounded t t' u p.row s (valid_of p p.spelling.full p.row.full).within c.args.self.now.bounded c.join.result c.join.ensures }
+    record { bounded = bounded (rows t) (rows c.join.new.self.linked) (limit_of (length t.cells.now)) (symbols_of p.spelling) p.row (valid_of p p.spelling.full p.row.full).within c.args.self.now.bounded c.join.result c.join.ensures.added }
 
 pub returns : goal.returns
 returns c =
-    let t = c.args.self.now.tree in
-    let t' = c.join.new.self in
+    let t = c.args.self.now.tree.linked in
     let p = c.args.pattern.now in
-    let u = symbols_of p.spelling in
-    let s = upright row_kind t c.args.self.now.stands in
     record {
-      limit = ap limit_of (leads_size row_kind t t' u p.row s c.join.result c.join.ensures);
-      held = raising t t' u p.row s c.join.result c.join.ensures;
+      limit = ap limit_of c.join.ensures.cells;
+      held = raising (rows t) (rows c.join.new.self.linked) (limit_of (length t.cells.now)) (symbols_of p.spelling) p.row c.join.result c.join.ensures.added;
     }

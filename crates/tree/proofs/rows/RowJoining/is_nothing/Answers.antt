@@ -1,23 +1,27 @@
-use Rattle.std.proofs.Common.{◌≡◌, ◌<◌, not, length, get_or, sym, ap, ◌∙◌, arith}
-use Rattle.std.proofs.lemmas.List.{at_drop_more, at_drop_all}
+use Rattle.std.proofs.Common.{◌≡◌, ℕ, zero, suc, ◌<◌, Bool, true, false, not, List, [], ◌∷◌, length, get_or, sym, refl, ap, ⊎_elim, rules, arith}
+use Rattle.std.specs.Prelude.{IsTrue, ◌↔◌, EachIndex}
+use Rattle.std.proofs.lemmas.Bool.{cases_Bool, false≢true}
 use Rattle.patterns.specs.Spellings.{any_above_zero}
-use Rattle.patterns.proofs.RowLaws.{any_here, any_zero}
 use Rattle.tree.proofs.rows.RowJoining.is_nothing.Goals as goal
 
-pub returns-then-v-gt0 : goal.returns-then-v-gt0
-returns-then-v-gt0 c =
-    let vs = c.args.self.values in
-    let h : c.loop-v.v-index < length vs = omega (arith, c.args.self.full) in
-    sym (ap not (sym c.loop-v.invariant ∙ at_drop_more any_above_zero vs c.loop-v.v-index 0 h ∙ any_here _ _ c.if-v-gt0.true))
+-- all numbers of a list are 0, or some number is above it
+all_zero : (xs : List ℕ) → any_above_zero xs ≡ false → (k : ℕ) → get_or xs k 0 ≡ 0
+all_zero [] e k = refl
+all_zero (zero ∷ xs) e zero = refl
+all_zero (zero ∷ xs) e (suc k) = all_zero xs e k
+all_zero (suc x ∷ xs) e k = absurd (cc)
 
-pub loop-v-preserved : goal.loop-v-preserved
-loop-v-preserved c =
-    let vs = c.args.self.values in
-    let h : c.loop-v.v-index < length vs = omega (arith, c.args.self.full) in
-    let z : get_or vs c.loop-v.v-index 0 ≡ 0 = omega arith in
-    sym (at_drop_more any_above_zero vs c.loop-v.v-index 0 h ∙ any_zero _ _ z) ∙ c.loop-v.invariant
+none_above : (xs : List ℕ) → ((k : ℕ) → k < length xs → get_or xs k 0 ≡ 0) → any_above_zero xs ≡ false
+none_above [] h = refl
+none_above (zero ∷ xs) h = none_above xs (λ k l. h (suc k) (omega arith))
+none_above (suc x ∷ xs) h = let e = h 0 (omega arith) in absurd (omega arith)
+
+told : (xs : List ℕ) (b : Bool) → IsTrue b ↔ EachIndex xs (λ k. get_or xs k 0 ≡ 0) → b ≡ not (any_above_zero xs)
+told xs true h = sym (ap not (none_above xs (h.0 refl)))
+told xs false h = ⊎_elim
+    (λ (t : any_above_zero xs ≡ true). sym (ap not t))
+    (λ (f : any_above_zero xs ≡ false). absurd (false≢true (h.1 (λ k l. all_zero xs f k))))
+    (cases_Bool (any_above_zero xs))
 
 pub returns : goal.returns
-returns c =
-    let vs = c.args.self.values in
-    sym (ap not (sym c.loop-v.invariant ∙ at_drop_all any_above_zero vs c.loop-v.v-index (omega (arith, c.args.self.full))))
+returns c = told c.args.self.values c.all.result (search rules)

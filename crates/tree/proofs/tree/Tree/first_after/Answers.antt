@@ -1,0 +1,20 @@
+use Rattle.std.proofs.Common.{ℕ, sym, ap, ◌∙◌, subst}
+use Rattle.patterns.specs.Views.{symbols_of}
+use Rattle.books.specs.Calls.{spelling}
+use Rattle.tree.specs.Leasts.{FirstFrom}
+use Rattle.tree.proofs.Props.{standing}
+use Rattle.tree.proofs.Leasts.{least_is, least_absent}
+use Rattle.tree.proofs.tree.Tree.first_after.Goals as goal
+
+pub returns-in_err-turn : goal.returns-in_err-turn
+returns-in_err-turn g c =
+    let t = c.args.self.now in
+    let K = g.V.Joining.kind in
+    ap spelling c.from_residual.ensures ∙ sym (least_absent K t.linked.cells.now t.linked.used t.count (standing K t.linked t.count t.stands) c.args.other.now c.in_err-turn.ensures)
+
+pub returns : goal.returns
+returns g c =
+    let t = c.args.self.now in
+    let K = g.V.Joining.kind in
+    let w = symbols_of c.first_from.result in
+    sym (least_is K t.linked.cells.now t.linked.used t.count (standing K t.linked t.count t.stands) c.args.other.now c.in_ok-turn.turn w c.in_ok-turn.ensures (subst (λ (s : ℕ). FirstFrom K t.linked.cells.now t.linked.used s w) c.way_to-way.ensures.cell c.first_from.ensures))

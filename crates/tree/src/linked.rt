@@ -1,0 +1,14 @@
+//! Cells that are linked as a tree.
+ghost use Rattle.std.specs.Prelude.{◌≤◌, length};
+ghost use Rattle.tree.specs.Cells.{IsTree};
+
+use crate::cell::Cell;
+
+/// Lent cells, the first `used` of which are a tree.
+#[derive(Drop)]
+pub struct Linked<'a, V> {
+    pub cells: &'a mut [Cell<V>],
+    pub used: usize,
+    ghost tree: { ∥ IsTree cells.now used ∥₁ },
+    ghost room: { used ≤ length cells.now },
+}
