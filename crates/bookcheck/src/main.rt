@@ -151,7 +151,7 @@ impl<'a> Case<'a> {
 fn fill<B: WritingBook>(book: &mut B, texts: &str) -> anyhow::Result<Option<Refusal>> {
     for text in texts.split(' ') {
         if let Err(full) = book.raise(&pattern_of(text)?) {
-            return Ok(Some(full.refusal()));
+            return Ok(Some(Refusal::from(full)));
         }
     }
     Ok(None)
@@ -160,10 +160,7 @@ fn fill<B: WritingBook>(book: &mut B, texts: &str) -> anyhow::Result<Option<Refu
 fn tell_pattern(told: &mut String, spelling: Spelling, row: Row) -> anyhow::Result<()> {
     let mut text = [0; LINE];
     let pattern = Pattern::new(spelling, row).context("a spelling is held without a value")?;
-    let n = pattern
-        .write(&mut text)
-        .ok()
-        .context("the line is longer than its memory")?;
+    let n = pattern.write(&mut text)?;
     told.push_str(str::from_utf8(&text[..n])?)?;
     told.push_str(" ")?;
     Ok(())
@@ -171,8 +168,6 @@ fn tell_pattern(told: &mut String, spelling: Spelling, row: Row) -> anyhow::Resu
 
 fn tell_refusal(heap: Global, refusal: Refusal) -> anyhow::Result<String> {
     let mut text = [0; LINE];
-    let n = write_refusal(refusal, &mut text)
-        .ok()
-        .context("the line is longer than its memory")?;
+    let n = write_refusal(refusal, &mut text)?;
     Ok(String::from_str(heap, str::from_utf8(&text[..n])?)?)
 }
