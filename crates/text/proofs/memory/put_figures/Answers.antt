@@ -1,28 +1,11 @@
-use Rattle.std.proofs.Common.{◌≡◌, ℕ, ◌+◌, ◌<◌, List, [], ◌∷◌, length, get_or, take, decimal, sym, ap, ◌∙◌, ap₂, add-zero, arith}
+use Rattle.std.proofs.Common.{ℕ, ◌+◌, ◌<◌, List, [], ◌∷◌, length, get_or, take, decimal, sym, ap, ◌∙◌, ap₂, arith}
 use Rattle.std.specs.List.{between, flat_map}
-use Rattle.std.proofs.lemmas.List.{length-append, nil_from_length, take_all}
+use Rattle.std.proofs.lemmas.List.{length-append, take_all}
 use Rattle.std.proofs.lemmas.Bool.{ltb-true, ltb-false}
-use Rattle.text.specs.Written.{commaed, overlaid}
+use Rattle.text.specs.Written.{overlaid}
 use Rattle.text.proofs.Commas.{behind, commaed_split, joined_step, room_next, overlaid_behind}
-use Rattle.text.proofs.Overlays.{overlaid_none, overlaid_more}
+use Rattle.text.proofs.Overlays.{overlaid_more}
 use Rattle.text.proofs.memory.put_figures.Goals as goal
-
-pub returns-in_default : goal.returns-in_default
-returns-in_default c =
-    let none : c.args.figures.now ≡ [] = nil_from_length c.args.figures.now (omega (arith, ltb-true, ltb-false)) in
-    record {
-      end = sym (ap (λ ns. c.args.at + length (commaed ns)) none ∙ add-zero c.args.at);
-      text = sym (ap (λ ns. overlaid c.args.memory.now c.args.at (commaed ns)) none ∙ overlaid_none c.args.memory.now c.args.at);
-    }
-
-pub put_number-end-requires : goal.put_number-end-requires
-put_number-end-requires c =
-    let ns = c.args.figures.now in
-    let some : 0 < length ns = omega (arith, ltb-true, ltb-false) in
-    omega (arith, ap length (commaed_split ns some) ∙ length-append (decimal (get_or ns 0 0)) (flat_map behind (between 1 (length ns) ns)))
-
-pub loop-figure-init : goal.loop-figure-init
-loop-figure-init c = (sym (add-zero c.put_number-end.result), sym (overlaid_none c.put_number-end.new.memory c.put_number-end.result))
 
 pub put-end-requires : goal.put-end-requires
 put-end-requires c =

@@ -57,9 +57,6 @@ returns-then-not-after_letter c =
     ]) in
     record { value = v; meaning = both c.args.line bs _ v }
 
-pub mark_bit-marks-requires : goal.mark_bit-marks-requires
-mark_bit-marks-requires c = omega (arith, c.loop-i.invariant.room)
-
 pub returns-in_default : goal.returns-in_default
 returns-in_default c =
     let bs = c.args.bytes.now in

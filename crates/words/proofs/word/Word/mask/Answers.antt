@@ -1,7 +1,5 @@
 use Rattle.std.proofs.Common.{◌≡◌, ℕ, suc, ◌+◌, ◌-◌, ◌^◌, ◌<◌, ◌≤◌, sym, ap, ◌∙◌, ap₂, arith, pow_mono}
 use Rattle.std.proofs.lemmas.Nat.{one_shl}
-use Rattle.words.specs.Counting.{numbers}
-use Rattle.words.specs.Words.{bits_of}
 use Rattle.words.proofs.Bits.{bits_numbers}
 use Rattle.words.proofs.word.Word.mask.Goals as goal
 
@@ -13,10 +11,6 @@ overflow_sub-result-2 c =
     rw (one_shl c.args.bounds.left 64 l, one_shl (c.args.self.now.len + 1 - c.args.bounds.right) 64 h) (pow_mono o)
 
 -- no position lies within bounds
-pub returns-then-self-bounds : goal.returns-then-self-bounds
-returns-then-self-bounds c =
-    let k : 0 ≡ suc (c.args.self.now.len - c.args.bounds.right) - c.args.bounds.left = omega arith in
-    ap (λ (x : ℕ). bits_of (numbers c.args.bounds.left x)) k
 
 pub returns : goal.returns
 returns c =
