@@ -1,7 +1,8 @@
 -- The first spelling in the order, of all cells and of those that hold something.
-use Rattle.std.proofs.Common.{◌≡◌, ℕ, zero, suc, ◌+◌, ◌<◌, true, false, not, ◌≢◌, List, [], ◌∷◌, ◌++◌, length, get_or, take, set, Some, None, Option, sym, refl, ap, ◌∙◌, subst, ap₂, ⊎_elim, add-one, arith}
-use Rattle.std.proofs.lemmas.List.{length_push, length-set, take_more_set, take_at, get_or-set_other, take_all, get_or-map}
+use Rattle.std.proofs.Common.{◌≡◌, ℕ, zero, suc, ◌+◌, ◌-◌, ◌<◌, ◌≤◌, true, false, not, ◌≢◌, List, [], ◌∷◌, ◌++◌, length, get_or, take, drop, replicate, set, Some, None, Option, sym, refl, ap, ◌∙◌, subst, ap₂, ⊎_elim, add-one, arith}
+use Rattle.std.proofs.lemmas.List.{length_push, length-set, take_more_set, take_at, get_or-set_other, take_all, get_or-map, length-append, length-drop, length-take-le, get_or-append_right, get_or-drop}
 use Rattle.std.proofs.lemmas.Bool.{cases_Bool, both_ways, not-true, false≢true}
+use Rattle.text.proofs.Padding.{zeros}
 use Rattle.std.proofs.ByRecursion.{All-weaker}
 use Rattle.std.specs.Option.{option_or}
 use Rattle.patterns.specs.Spellings.{longest, any_above_zero}
@@ -44,6 +45,17 @@ written_more w len symbols x h a = record {
   front = take_more_set symbols len x (omega (arith, a.full)) ∙ ap (λ (y : List ℕ). y ++ (x ∷ [])) a.front;
   unused = λ k l. let ne : k ≢ len = omega arith in get_or-set_other symbols len k x 0 ne ∙ a.unused k (omega arith);
 }
+
+-- the first d symbols of w, and then only 0
+pub written_front : (w : List ℕ) (d : ℕ) (xs : List ℕ) → d ≤ length w → d ≤ longest → xs ≡ take d w → Written (take d w) d (xs ++ drop d (replicate longest 0))
+written_front w d xs inside short e =
+    let n : length xs ≡ d = ap length e ∙ length-take-le d w inside in
+    record {
+      full = length-append xs (drop d (replicate longest 0)) ∙ omega (arith, length-drop {A = ℕ} d (replicate longest 0));
+      sized = short;
+      front = take_at xs (drop d (replicate longest 0)) d n ∙ e;
+      unused = λ k l. get_or-append_right xs (drop d (replicate longest 0)) d k 0 n l ∙ get_or-drop d (replicate longest 0) (k - d) 0 ∙ zeros longest (d + (k - d));
+    }
 
 -- ---- the first cell after a spelling
 

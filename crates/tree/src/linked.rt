@@ -4,7 +4,8 @@ ghost use Rattle.tree.specs.Cells.{IsTree};
 
 use crate::cell::Cell;
 
-/// Lent cells, the first `used` of which are a tree.
+/// Lent cells, the first `used` of which are a tree. A cell is named by its number, of which no type can say that it is below
+/// the `used` of these cells: functions ask for that.
 #[derive(Drop)]
 pub struct Linked<'a, V> {
     pub cells: &'a mut [Cell<V>],

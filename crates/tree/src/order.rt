@@ -90,6 +90,7 @@ impl<'a, V: Joining> Tree<'a, V> {
         let mut at = way.cell;
         let mut len = way.len;
         let mut symbols = way.symbols;
+        // down to a first child, which each cell that holds nothing has, so that its number is no 0
         while cells[at].value.is_nothing() {
             at = cells[at].link.first;
             symbols[len] = cells[at].link.symbol;

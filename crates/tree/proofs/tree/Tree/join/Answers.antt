@@ -1,11 +1,10 @@
-use Rattle.std.proofs.Common.{ℕ, ◌+◌, ◌≤◌, List, length, Some, None, Ok, refl, sym, ap, subst, arith}
+use Rattle.std.proofs.Common.{ℕ, ◌+◌, ◌≤◌, List, length, None, Ok, refl, sym, ap, subst, arith}
 use Rattle.patterns.specs.Spellings.{longest}
 use Rattle.patterns.specs.Views.{symbols_of}
-use Rattle.tree.specs.Descents.{Descent}
 use Rattle.tree.specs.Stands.{Holder}
 use Rattle.tree.proofs.Props.{standing}
 use Rattle.tree.proofs.Works.{limit_room, refused}
-use Rattle.tree.proofs.Spelt.{spelling_ruled, spelling_some}
+use Rattle.tree.proofs.Spelt.{spelling_ruled}
 use Rattle.tree.proofs.Reordered.{any_order}
 use Rattle.tree.proofs.Adds.{joined_held, joined_made, joined_none, adding}
 use Rattle.tree.proofs.tree.Tree.join.Goals as goal
@@ -13,41 +12,31 @@ use Rattle.tree.proofs.tree.Tree.join.Goals as goal
 pub invariant_of-self : goal.invariant_of-self
 invariant_of-self g c =
     let t = c.args.self.now in
-    let K = g.V.Joining.kind in
-    let u = symbols_of c.args.spelling.now in
-    let holder = subst (λ (w : List ℕ). Holder K t.linked.cells.now t.linked.used w (Some c.in-Some.cell)) c.symbols-symbols.ensures c.in-Some.ensures in
-    let j = joined_held K t.linked t.count (standing K t.linked t.count t.stands) u c.args.v (spelling_some c.args.spelling.now) (spelling_ruled c.args.spelling.now) c.join_at.new.self c.in-Some.cell holder c.join_at.ensures.used c.join_at.ensures.size c.join_at.ensures.joined in
-    record { stands = ∣ j.stands ∣₁ }
+    let a = c.join_at.ensures in
+    record { stands = ∣ (joined_held g.V.Joining.kind t.linked t.count t.stands c.args.spelling.now c.args.v c.symbols-symbols.result.now c.symbols-symbols.ensures c.join_at.new.self c.in-Some.cell c.in-Some.ensures a.used a.size a.joined).stands ∣₁ }
 
 pub returns-in-Some : goal.returns-in-Some
 returns-in-Some g c =
     let t = c.args.self.now in
-    let t' = c.join_at.new.self in
     let K = g.V.Joining.kind in
-    let st = standing K t.linked t.count t.stands in
-    let u = symbols_of c.args.spelling.now in
-    let holder = subst (λ (w : List ℕ). Holder K t.linked.cells.now t.linked.used w (Some c.in-Some.cell)) c.symbols-symbols.ensures c.in-Some.ensures in
-    let j = joined_held K t.linked t.count st u c.args.v (spelling_some c.args.spelling.now) (spelling_ruled c.args.spelling.now) t' c.in-Some.cell holder c.join_at.ensures.used c.join_at.ensures.size c.join_at.ensures.joined in
-    record { cells = j.size; joined = j; added = adding K t.linked t.count st t' t.count u c.args.v (Ok tt) j; order = any_order K }
+    let a = c.join_at.ensures in
+    let j = joined_held K t.linked t.count t.stands c.args.spelling.now c.args.v c.symbols-symbols.result.now c.symbols-symbols.ensures c.join_at.new.self c.in-Some.cell c.in-Some.ensures a.used a.size a.joined in
+    record { cells = j.size; joined = j; added = adding K t.linked t.count t.stands c.args.spelling.now c.args.v _ c.symbols-symbols.ensures c.join_at.new.self t.count (Ok tt) j; order = any_order K }
 
 pub returns-then-self-limit : goal.returns-then-self-limit
 returns-then-self-limit g c =
     let t = c.args.self.now in
     let K = g.V.Joining.kind in
-    let st = standing K t.linked t.count t.stands in
     let none = subst (λ (w : List ℕ). Holder K t.linked.cells.now t.linked.used w None) c.symbols-symbols.ensures c.in_default.ensures in
-    let r = refused K t.linked.cells.now t.linked.used t.count (symbols_of c.args.spelling.now) st none (omega (arith, c.limit.ensures.value, c.if-self-limit.true)) in
+    let r = refused K t.linked.cells.now t.linked.used t.count (symbols_of c.args.spelling.now) (standing K t.linked t.count t.stands) none (omega (arith, c.limit.ensures.value, c.if-self-limit.true)) in
     record { cells = refl; joined = (r, record { same_cells = refl; same_used = refl; same_count = refl }); added = (r, refl); order = any_order K }
 
 pub returns-then-is_nothing : goal.returns-then-is_nothing
 returns-then-is_nothing g c =
     let t = c.args.self.now in
     let K = g.V.Joining.kind in
-    let st = standing K t.linked t.count t.stands in
-    let u = symbols_of c.args.spelling.now in
-    let none = subst (λ (w : List ℕ). Holder K t.linked.cells.now t.linked.used w None) c.symbols-symbols.ensures c.in_default.ensures in
-    let j = joined_none K t.linked t.count st u c.args.v (spelling_some c.args.spelling.now) (spelling_ruled c.args.spelling.now) none (omega (arith, c.limit.ensures.value, c.if-self-limit.false)) (sym c.if-is_nothing.ensures) in
-    record { cells = refl; joined = j; added = adding K t.linked t.count st t.linked t.count u c.args.v (Ok tt) j; order = any_order K }
+    let j = joined_none K t.linked t.count t.stands c.args.spelling.now c.args.v c.symbols-symbols.result.now c.symbols-symbols.ensures c.in_default.ensures (omega (arith, c.limit.ensures.value, c.if-self-limit.false)) (sym c.if-is_nothing.ensures) in
+    record { cells = refl; joined = j; added = adding K t.linked t.count t.stands c.args.spelling.now c.args.v _ c.symbols-symbols.ensures t.linked t.count (Ok tt) j; order = any_order K }
 
 pub descend-cell-requires : goal.descend-cell-requires
 descend-cell-requires g c =
@@ -66,23 +55,13 @@ descend-cell-requires g c =
 pub invariant_of-self-2 : goal.invariant_of-self-2
 invariant_of-self-2 g c =
     let t = c.args.self.now in
-    let K = g.V.Joining.kind in
-    let u = symbols_of c.args.spelling.now in
-    let none = subst (λ (w : List ℕ). Holder K t.linked.cells.now t.linked.used w None) c.symbols-symbols.ensures c.in_default.ensures in
-    let t₁ = c.descend-cell.new.self in
-    let descent = subst (λ (w : List ℕ). Descent K t.linked.cells.now t₁.cells.now t.linked.used t₁.used w c.descend-cell.result) c.symbols-symbols.ensures c.descend-cell.ensures in
-    let j = joined_made K t.linked t.count (standing K t.linked t.count t.stands) u c.args.v (spelling_some c.args.spelling.now) (spelling_ruled c.args.spelling.now) none (omega (arith, c.limit.ensures.value, c.if-self-limit.false)) t₁ c.join_at-2.new.self c.descend-cell.result (sym c.if-is_nothing.ensures) descent c.join_at-2.ensures.used c.join_at-2.ensures.size c.join_at-2.ensures.joined in
-    record { stands = ∣ j.stands ∣₁ }
+    let a = c.join_at-2.ensures in
+    record { stands = ∣ (joined_made g.V.Joining.kind t.linked t.count t.stands c.args.spelling.now c.args.v c.symbols-symbols.result.now c.symbols-symbols.ensures c.in_default.ensures (omega (arith, c.limit.ensures.value, c.if-self-limit.false)) c.descend-cell.new.self c.join_at-2.new.self c.descend-cell.result (sym c.if-is_nothing.ensures) c.descend-cell.ensures a.used a.size a.joined).stands ∣₁ }
 
 pub returns : goal.returns
 returns g c =
     let t = c.args.self.now in
     let K = g.V.Joining.kind in
-    let st = standing K t.linked t.count t.stands in
-    let u = symbols_of c.args.spelling.now in
-    let none = subst (λ (w : List ℕ). Holder K t.linked.cells.now t.linked.used w None) c.symbols-symbols.ensures c.in_default.ensures in
-    let t₁ = c.descend-cell.new.self in
-    let t₂ = c.join_at-2.new.self in
-    let descent = subst (λ (w : List ℕ). Descent K t.linked.cells.now t₁.cells.now t.linked.used t₁.used w c.descend-cell.result) c.symbols-symbols.ensures c.descend-cell.ensures in
-    let j = joined_made K t.linked t.count st u c.args.v (spelling_some c.args.spelling.now) (spelling_ruled c.args.spelling.now) none (omega (arith, c.limit.ensures.value, c.if-self-limit.false)) t₁ t₂ c.descend-cell.result (sym c.if-is_nothing.ensures) descent c.join_at-2.ensures.used c.join_at-2.ensures.size c.join_at-2.ensures.joined in
-    record { cells = j.size; joined = j; added = adding K t.linked t.count st t₂ (t.count + 1) u c.args.v (Ok tt) j; order = any_order K }
+    let a = c.join_at-2.ensures in
+    let j = joined_made K t.linked t.count t.stands c.args.spelling.now c.args.v c.symbols-symbols.result.now c.symbols-symbols.ensures c.in_default.ensures (omega (arith, c.limit.ensures.value, c.if-self-limit.false)) c.descend-cell.new.self c.join_at-2.new.self c.descend-cell.result (sym c.if-is_nothing.ensures) c.descend-cell.ensures a.used a.size a.joined in
+    record { cells = j.size; joined = j; added = adding K t.linked t.count t.stands c.args.spelling.now c.args.v _ c.symbols-symbols.ensures c.join_at-2.new.self (t.count + 1) (Ok tt) j; order = any_order K }
