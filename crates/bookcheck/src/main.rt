@@ -55,7 +55,7 @@ fn answer(rt: &HostRuntime) -> anyhow::Result<()> {
 
 fn show_case(rt: &HostRuntime, line: &str) -> anyhow::Result<()> {
     let case = Case::try_from(line)?;
-    let unused = pattern_of("1a")?;
+    let unused = Pattern::read(b"1a")?;
     let mut rows = [unused; MOST];
     let by_table = case.told_by(rt.alloc(), &mut Table::new(&mut rows[..case.limit]))?;
     let link = Link {
@@ -100,16 +100,7 @@ fn bounds_of(text: &str) -> anyhow::Result<Bounds> {
 }
 
 fn word_of(text: &str) -> anyhow::Result<Word> {
-    read_line(1, text.as_bytes())
-        .ok()
-        .context("no word line")?
-        .context("no word")
-}
-
-fn pattern_of(text: &str) -> anyhow::Result<Pattern> {
-    Pattern::read(text.as_bytes())
-        .ok()
-        .context("no pattern text")
+    read_line(1, text.as_bytes())?.context("no word")
 }
 
 impl<'a> Case<'a> {
@@ -150,7 +141,7 @@ impl<'a> Case<'a> {
 /// Raises the patterns of the texts in their order, up to the first that is refused.
 fn fill<B: WritingBook>(book: &mut B, texts: &str) -> anyhow::Result<Option<Refusal>> {
     for text in texts.split(' ') {
-        if let Err(full) = book.raise(&pattern_of(text)?) {
+        if let Err(full) = book.raise(&Pattern::read(text.as_bytes())?) {
             return Ok(Some(Refusal::from(full)));
         }
     }

@@ -8,10 +8,12 @@ ghost use Rattle.books.specs.Calls.{spelling, Raising};
 ghost use Rattle.books.specs.Rule.{given_at};
 
 use patterns::pattern::{LONGEST, Pattern, Row, Spelling};
+use thiserror::Error;
 use words::word::Word;
 
 /// A book that holds as many spellings as it may, and not the one that was to be raised.
-#[derive(Clone, Copy)]
+#[derive(Clone, Copy, PartialEq, Eq, Debug, Error)]
+#[error("the book is full")]
 pub struct Full;
 
 /// A book that answers what it holds. No question changes it.

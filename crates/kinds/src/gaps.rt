@@ -1,5 +1,5 @@
 //! The type of the values of a word.
-ghost use Rattle.std.specs.Prelude.{◌≡◌, ◌+◌, ◌<◌, length, slice_index};
+ghost use Rattle.std.specs.Prelude.{◌≡◌, ◌+◌, length, slice_index};
 ghost use Rattle.kinds.specs.Gaps.{gap_count};
 
 /// The gaps that a row may reach in a padded word.
@@ -13,11 +13,13 @@ pub struct Values {
 }
 
 impl Values {
-    /// The value of a position.
+    /// The value of a position; 0 beyond the gaps.
     pub fn at(&self, position: usize) -> u8
-        requires { position + 1 < gap_count }
         ensures { result ≡ slice_index self.now.gaps (position + 1) }
     {
+        if position >= GAPS - 1 {
+            return 0;
+        }
         self.gaps[position + 1]
     }
 }

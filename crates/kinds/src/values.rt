@@ -9,7 +9,8 @@ use books::book::ReadingBook;
 use patterns::pattern::{LONGEST, PLACES, Row};
 use words::word::Word;
 
-// Raises each gap to the value that a row gives it.
+// Raises each gap to the value that a row gives it. `Row::greater` does the same to a row: over lent gaps it would be a public call
+// with a condition on their number.
 fn lift(gaps: &mut [u8], row: &Row)
     requires { length gaps.old ≡ places }
     ensures { gaps.new ≡ greater gaps.old row.now.values }

@@ -33,21 +33,14 @@ mod tests {
     }
 
     fn read(text: &[u8]) -> Result<Pattern, Fail> {
-        match Pattern::read(text) {
-            Ok(pattern) => Ok(pattern),
-            Err(_) => Err(Fail::new("no pattern")),
-        }
+        Pattern::read(text).map_err(|_| Fail::new("no pattern"))
     }
 
     fn is(rt: &impl Abort, found: Option<Spelling>, text: &[u8]) -> Result<(), Fail> {
         let wanted = read(text)?.spelling;
-        match found {
-            Some(spelling) => {
-                assert!(rt; spelling == wanted);
-                Ok(())
-            },
-            None => Err(Fail::new("nothing found")),
-        }
+        let spelling = found.ok_or("nothing found")?;
+        assert!(rt; spelling == wanted);
+        Ok(())
     }
 
     #[test]

@@ -9,6 +9,7 @@ ghost use Rattle.patterns.specs.Views.{answer};
 
 use crate::pattern::{LONGEST, PLACES, Pattern, Row, Spelling};
 use text::refusal::{Reason, Refusal};
+use thiserror::Error;
 
 /// What a byte of a pattern text is: a symbol, or the digit of a value above 0.
 #[derive(Clone, Copy)]
@@ -18,7 +19,8 @@ pub enum Piece {
 }
 
 /// A text that is no pattern text, and the column at which it is refused.
-#[derive(Clone, Copy, PartialEq, Eq, Debug)]
+#[derive(Clone, Copy, PartialEq, Eq, Debug, Error)]
+#[error("no pattern text")]
 pub struct BadPattern {
     pub column: usize,
 }

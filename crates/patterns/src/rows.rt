@@ -19,6 +19,7 @@ impl Row {
         ensures { result.values ≡ greater self.now.values other.now.values }
     {
         let mut values = self.values;
+        // Once a `zip` of the values is over, only their number is known.
         for (k, value) in values.iter_mut().enumerate() {
             *value = (*value).max(other.values[k]);
         }

@@ -2,7 +2,6 @@
 //! the values found. How long both took goes to the standard error.
 #![tactic(auto)]
 
-use anyhow::Context;
 use books::book::{Full, ReadingBook, WritingBook};
 use makes::treebook::TreeBook;
 use patterns::pattern::{Pattern, Row};
@@ -30,9 +29,7 @@ fn answer(rt: &HostRuntime) -> anyhow::Result<()> {
     let mut cells = vec![in rt.alloc(); Cell { link, value }; count]?;
     let mut book = TreeBook::new(cells.as_mut_slice());
     let start = Instant::now(rt)?;
-    raise_all(&mut book, patterns.as_slice())
-        .ok()
-        .context("the book is full")?;
+    raise_all(&mut book, patterns.as_slice())?;
     let raised = start.elapsed(rt)?;
     let start = Instant::now(rt)?;
     let sum = look_up_all(&book, patterns.as_slice());
@@ -49,7 +46,7 @@ fn answer(rt: &HostRuntime) -> anyhow::Result<()> {
 fn read_all(heap: Global, text: &[u8]) -> anyhow::Result<Vec<Pattern>> {
     let mut patterns = Vec::new(heap);
     for line in Lines::new(text) {
-        patterns.push(Pattern::read(line).ok().context("no pattern text")?)?;
+        patterns.push(Pattern::read(line)?)?;
     }
     Ok(patterns)
 }

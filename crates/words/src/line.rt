@@ -5,6 +5,7 @@ ghost use Rattle.words.specs.Grammar.{Judged};
 ghost use Rattle.words.specs.Views.{answer};
 
 use crate::word::{LONGEST, Word};
+use thiserror::Error;
 
 /// What a byte of a word line may be: a letter with its symbol, or a mark that is a hyphen or none.
 #[derive(Clone, Copy)]
@@ -14,7 +15,8 @@ pub enum Kind {
 }
 
 /// Why a word line is refused, and at which byte of which line.
-#[derive(Clone, Copy, PartialEq, Eq, Debug)]
+#[derive(Clone, Copy, PartialEq, Eq, Debug, Error)]
+#[error("no word line")]
 pub enum LineFault {
     /// A byte that is no letter and no mark.
     NoLetter { line: usize, column: usize },
