@@ -13,6 +13,7 @@ pub fn given_in<B: ReadingBook>(book: &B, word: &Word, bounds: Bounds) -> u64
 {
     let values = values_of(book, word);
     let mut given = 0;
+    // As a fold over the positions it is no plainer.
     for i in bounds.left..(word.len + 1).saturating_sub(bounds.right) {
         given |= u64::from(values.at(i) % 2) << i;
     }

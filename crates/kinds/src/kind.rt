@@ -20,6 +20,7 @@ pub struct KindCounts {
 }
 
 /// Counts the kinds of a word's positions within bounds.
+// A book, a word and bounds come together, but each from its own owner: no struct keeps a fact of all three.
 pub fn count_kinds<B: ReadingBook>(book: &B, word: &Word, bounds: Bounds) -> KindCounts
     ensures found { result.found ≡ count (found (B.held book.now) (headword word.now)) (within bounds.left bounds.right (headword word.now)) }
     ensures wrong { result.wrong ≡ count (wrong (B.held book.now) (headword word.now)) (within bounds.left bounds.right (headword word.now)) }

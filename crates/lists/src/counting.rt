@@ -21,6 +21,7 @@ pub fn count_list<L: WordList>(list: &mut L, bounds: Bounds) -> Result<ListCount
     list.rewind();
     let mut words = 0;
     let mut hyphens = 0;
+    // A list is no iterator: its `next` may be asked again at the end, and answers the fault each time.
     while let Some(word) = list.next()? {
         words += 1;
         hyphens += u64::from(word.hyphens_within(bounds));

@@ -5,6 +5,7 @@ ghost use Rattle.lists.specs.Rows.{rows_from, row_words, row_ending};
 use words::row::WordRow;
 
 /// The words of lent rows, of which the first `read` have been read.
+// A number and no rest of the rows: it is what the list answers as read, and rewinding wants all rows.
 #[derive(Clone, Copy)]
 pub struct RowList<'a> {
     pub rows: &'a [WordRow],

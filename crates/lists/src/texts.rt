@@ -17,6 +17,7 @@ use words::word::Word;
 fn next_word<'a>(lines: &mut Lines<'a>, read: usize) -> Result<Option<Word>, ListFault>
     ensures { Gives (content_from (lines.old.number + 1) read (lines_of (unread lines.old))) result (content_from (lines.new.number + 1) (read + 1) (lines_of (unread lines.new))) }
 {
+    // No `for`, which would take the lines: they are asked for the number of each.
     while let Some(line) = lines.next() {
         if !line.is_empty() && read >= FULLEST {
             return Err(ListFault::TooMany { line: lines.number });

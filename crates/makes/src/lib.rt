@@ -32,6 +32,7 @@ mod tests {
         Counts { good, bad }
     }
 
+    // The tests of the table have the same: shared, it would be a public function of a library.
     fn read(text: &[u8]) -> Result<Pattern, Fail> {
         Pattern::read(text).map_err(|_| Fail::new("no pattern"))
     }

@@ -14,6 +14,7 @@ fn fill<R: Read>(from: &mut R, buffer: &mut [u8]) -> io::Result<usize>
     ensures { IfOk result (λ n. n ≤ length buffer.new) }
 {
     let mut len = 0;
+    // A read gives as many bytes as it likes, so that bytes are counted and not turns.
     while len < buffer.len() {
         let n = from.read(&mut buffer[len..])?;
         if n == 0 {

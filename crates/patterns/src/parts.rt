@@ -27,12 +27,14 @@ fn symbols_from(word: &Word, start: usize, len: usize) -> [u8; LONGEST]
     ensures unused { (k : ℕ) → len ≤ k → slice_index result k ≡ 0 }
 {
     let mut symbols = [0; LONGEST];
+    // Made by `array::from_fn` it gets no proof: what the closure captured is then unknown.
     for (k, symbol) in symbols[..len].iter_mut().enumerate() {
         *symbol = symbol_at(word, start + k);
     }
     symbols
 }
 
+// A start and a length name a part: a struct of both would keep nothing of it, since most parts are no spelling.
 impl Spelling {
     /// The `len` symbols of the padded word from `start` on, where these are a spelling.
     pub fn of_part(word: &Word, start: usize, len: usize) -> Option<Spelling>

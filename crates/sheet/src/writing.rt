@@ -25,6 +25,7 @@ pub fn write_counts(counts: ListCounts, memory: &mut [u8]) -> Result<usize, Shor
 pub fn write_refusal(refusal: Refusal, memory: &mut [u8]) -> Result<usize, Short>
     ensures { Wrote (refusal_line (six_of refusal)) memory.old result memory.new }
 {
+    // Lines are written into lent memory, which may be too short, so that they are no `Display`.
     let six = [
         u64::from(refusal.reason.number()),
         refusal.line as u64,

@@ -55,6 +55,7 @@ pub fn read_line(line: usize, bytes: &[u8]) -> Result<Option<Word>, LineFault>
     if bytes.is_empty() {
         return Ok(None);
     }
+    // No heap: the letters stand in an array, and how many came beside them.
     let mut letters = [0; LONGEST];
     let mut len = 0;
     let mut marks: u64 = 0;

@@ -7,6 +7,7 @@ ghost use Rattle.words.specs.Rows.{is_symbol, symbols_ok, marks_ok, row_ok, Trie
 use crate::word::{ALPHABET, LONGEST, Word};
 
 /// A row of a table of words: a length, as many symbols as the longest word has, and marks. It makes a word or none.
+// Rows are lent in this form, so that the length stands beside the symbols.
 #[derive(Clone, Copy)]
 pub struct WordRow {
     pub len: usize,

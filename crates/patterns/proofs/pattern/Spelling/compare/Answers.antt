@@ -1,6 +1,12 @@
 use Rattle.std.proofs.Common.{◌∙◌}
-use Rattle.patterns.proofs.Ordered.{total_order, spelling_ordering}
+use Rattle.patterns.proofs.Ordered.{total_order, spelling_ordering, spelling_equality}
 use Rattle.patterns.proofs.pattern.Spelling.compare.Goals as goal
 
 pub returns : goal.returns
-returns c = record { value = c.cmp.ensures ∙ spelling_ordering c.args.self.now c.args.other.now; total = total_order }
+returns c =
+    record {
+      value = c.cmp.ensures ∙ spelling_ordering c.args.self.now c.args.other.now;
+      total = total_order;
+      ordered = spelling_ordering;
+      alike = spelling_equality;
+    }
