@@ -4,7 +4,7 @@
 ghost use Rattle.std.specs.Prelude.{◌≡◌, IfOk, slice_index};
 ghost use Rattle.sheet.specs.Sheets.{figures_in};
 
-use anyhow::{Context, anyhow};
+use anyhow::Context;
 use sheet::reading::check_words;
 use sheet::writing::{LINE, write_outcome};
 use std::{env, fs};
@@ -27,9 +27,10 @@ fn bounds(argument: &str) -> anyhow::Result<Bounds>
 fn answer(rt: &HostRuntime) -> anyhow::Result<()> {
     let mut args = env::args(rt)?;
     let _ = args.next();
-    let (Some(first), Some(path)) = (args.next(), args.next()) else {
-        return Err(anyhow!("usage: listcheck left,right FILE"));
-    };
+    let (first, path) = args
+        .next()
+        .zip(args.next())
+        .context("usage: listcheck left,right FILE")?;
     let bounds = bounds(first.as_str())?;
     let text = fs::read(rt, path.as_str())?;
     let mut line = [0; LINE];
