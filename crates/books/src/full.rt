@@ -10,6 +10,6 @@ impl From<Full> for Refusal {
     ghost from_gives = { λ _ r. six_of r ≡ full_refused };
 
     fn from(_full: Full) -> Refusal {
-        Refusal::bare(Reason::FullBook)
+        Refusal::bare(Reason::FullBook.number())
     }
 }

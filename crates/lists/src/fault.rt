@@ -33,8 +33,8 @@ impl From<ListFault> for Refusal {
     fn from(fault: ListFault) -> Refusal {
         match fault {
             ListFault::Line(fault) => Refusal::from(fault),
-            ListFault::TooMany { line } => Refusal::at_byte(Reason::TooManyWords, line, 1),
-            ListFault::BadRow { row } => Refusal::at_byte(Reason::BadRow, row, 0),
+            ListFault::TooMany { line } => Refusal::at_byte(Reason::TooManyWords.number(), line, 1),
+            ListFault::BadRow { row } => Refusal::at_byte(Reason::BadRow.number(), row, 0),
         }
     }
 }

@@ -15,7 +15,7 @@ mod tests {
     use crate::rowlist::RowList;
     use crate::textlist::TextList;
     use std::test::Fail;
-    use text::refusal::{Reason, Refusal};
+    use text::refusal::Refusal;
     use words::row::WordRow;
     use words::word::{Bounds, LONGEST};
 
@@ -58,10 +58,7 @@ mod tests {
         let fault = count_list(&mut RowList::new(&rows), BOUNDS)
             .err()
             .ok_or("no row is refused")?;
-        assert_eq!(rt;
-            Refusal::from(fault),
-            Refusal::at_byte(Reason::BadRow, 2, 0)
-        );
+        assert_eq!(rt; Refusal::from(fault), Refusal::at_byte(10, 2, 0));
         Ok(())
     }
 
@@ -70,10 +67,7 @@ mod tests {
         let fault = count_list(&mut RowList::new(&[NO_LETTERS]), BOUNDS)
             .err()
             .ok_or("no row is refused")?;
-        assert_eq!(rt;
-            Refusal::from(fault),
-            Refusal::at_byte(Reason::BadRow, 1, 0)
-        );
+        assert_eq!(rt; Refusal::from(fault), Refusal::at_byte(10, 1, 0));
         Ok(())
     }
 }

@@ -1,10 +1,10 @@
 -- The order of spellings is a total order, and what it says.
-use Rattle.std.proofs.Common.{◌≡◌, ℕ, zero, suc, ◌<◌, ◌≤◌, true, ◌&&◌, nat_eq, ltb, ◌⊎◌, List, [], ◌∷◌, ◌++◌, length, get_or, take, Ordering, Less, Equal, Greater, sym, refl, ap, ◌∙◌, subst, ap₂, inl, inr, ⊎_elim, arith}
+use Rattle.std.proofs.Common.{◌≡◌, ℕ, zero, suc, ◌<◌, ◌≤◌, true, ◌&&◌, nat_eq, ltb, ◌⊎◌, List, [], ◌∷◌, ◌++◌, length, get_or, take, Some, Option, Ordering, Less, Equal, Greater, sym, refl, ap, ◌∙◌, subst, ap₂, inl, inr, ⊎_elim, arith}
 use Rattle.std.proofs.lemmas.Bool.{cases_order, lt-ltb, le-ltb, cond-true, cond-false, false≢true}
-use Rattle.std.specs.Ordering.{is_lt, is_eq, ordering_reverse, ordering_then, nat_cmp}
+use Rattle.std.specs.Ordering.{is_lt, is_eq, ordering_reverse, ordering_then, partial_ordering_then, nat_cmp}
 use Rattle.std.specs.Cmp.{then_flip, nat_cmp_is, both_tied, unsigned_ties}
 use Rattle.std.proofs.lemmas.List.{ext_get_or}
-use Rattle.std.specs.Cmp.Lexicographic.{slice_cmp, pointwise, texts_ties}
+use Rattle.std.specs.Cmp.Lexicographic.{slice_cmp, slice_partial_cmp, pointwise, texts_ties}
 use Rattle.std.proofs.lemmas.Cmp.{tied_itself}
 use Rattle.std.proofs.lemmas.Map.Lookups.{exact_bytes}
 use Rattle.patterns.specs.declared.pattern.Spelling.{Spelling}
@@ -166,6 +166,25 @@ pub spelling_ordering : (u v : Spelling) → ordering_then (slice_cmp nat_cmp u.
 spelling_ordering u v =
     ap (λ (o : Ordering). ordering_then o (nat_cmp u.len v.len)) (lists_ordering u.symbols v.symbols)
     ∙ padded_ordering u.symbols v.symbols u.len v.len (u.full ∙ sym v.full) (omega (arith, u.full, u.sized.1)) (omega (arith, v.full, v.sized.1)) u.unused v.unused
+
+-- an order that always answers, taken for one that may not
+then_some : (o r : Ordering) → partial_ordering_then (Some o) (Some r) ≡ Some (ordering_then o r)
+then_some Less r = refl
+then_some Equal r = refl
+then_some Greater r = refl
+
+partial_slices : (xs ys : List ℕ) → slice_partial_cmp (λ x y. Some (nat_cmp x y)) xs ys ≡ Some (slice_cmp nat_cmp xs ys)
+partial_slices [] [] = refl
+partial_slices [] (y ∷ ys) = refl
+partial_slices (x ∷ xs) [] = refl
+partial_slices (x ∷ xs) (y ∷ ys) =
+    ap (partial_ordering_then (Some (nat_cmp x y))) (partial_slices xs ys) ∙ then_some (nat_cmp x y) (slice_cmp nat_cmp xs ys)
+
+pub spelling_partial_ordering : (u v : Spelling) → partial_ordering_then (slice_partial_cmp (λ x y. Some (nat_cmp x y)) u.symbols v.symbols) (Some (nat_cmp u.len v.len)) ≡ Some (ordering (symbols_of u) (symbols_of v))
+spelling_partial_ordering u v =
+    ap (λ (o : Option Ordering). partial_ordering_then o (Some (nat_cmp u.len v.len))) (partial_slices u.symbols v.symbols)
+    ∙ then_some (slice_cmp nat_cmp u.symbols v.symbols) (nat_cmp u.len v.len)
+    ∙ ap (λ (o : Ordering). Some o) (spelling_ordering u v)
 
 pub spelling_equality : (u v : Spelling) → (pointwise nat_eq u.symbols v.symbols && nat_eq u.len v.len) ≡ is_eq (ordering (symbols_of u) (symbols_of v))
 spelling_equality u v =

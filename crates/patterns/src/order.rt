@@ -1,5 +1,5 @@
 //! Spellings are ordered symbol by symbol by number; where one begins another, the shorter comes first.
-ghost use Rattle.std.specs.Prelude.{◌≡◌};
+ghost use Rattle.std.specs.Prelude.{◌≡◌, Some};
 ghost use Rattle.std.specs.Ordering.{is_eq};
 ghost use Rattle.patterns.specs.declared.pattern.Spelling.{Spelling};
 ghost use Rattle.patterns.specs.Order.{ordering, TotalOrder};
@@ -21,6 +21,7 @@ impl Spelling {
         ensures value { result ≡ ordering (symbols_of self.now) (symbols_of other.now) }
         ensures total { TotalOrder }
         ensures ordered { (u v : Spelling) → ⟦<Spelling as Ord>⟧.cmp u v ≡ ordering (symbols_of u) (symbols_of v) }
+        ensures partly { (u v : Spelling) → ⟦<Spelling as PartialOrd>⟧.partial_cmp u v ≡ Some (ordering (symbols_of u) (symbols_of v)) }
         ensures alike { (u v : Spelling) → ⟦<Spelling as PartialEq>⟧.eq u v ≡ is_eq (ordering (symbols_of u) (symbols_of v)) }
     {
         self.cmp(other)

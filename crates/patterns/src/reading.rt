@@ -29,7 +29,7 @@ impl From<BadPattern> for Refusal {
     ghost from_gives = { λ f r. six_of r ≡ pattern_refused f };
 
     fn from(fault: BadPattern) -> Refusal {
-        Refusal::at_byte(Reason::BadPattern, 1, fault.column)
+        Refusal::at_byte(Reason::BadPattern.number(), 1, fault.column)
     }
 }
 
@@ -63,7 +63,7 @@ impl Pattern {
         ensures value { answer result ≡ reading text.now }
         ensures meaning { Judged text.now (answer result) }
     {
-        // No heap: the symbols and the values stand in arrays, and how many symbols came beside them.
+        // Arrays, as the spelling and the row keep them: vectors of fixed room would be copied out at the end.
         let mut symbols = [0; LONGEST];
         let mut values = [0; PLACES];
         let mut len = 0;

@@ -1,3 +1,2 @@
 mod Taking
 mod Sheeting
-mod Running

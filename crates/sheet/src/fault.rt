@@ -46,9 +46,13 @@ impl From<SheetFault> for Refusal {
 
     fn from(fault: SheetFault) -> Refusal {
         match fault {
-            SheetFault::TooLong => Refusal::bare(Reason::BadSheet),
-            SheetFault::BadLine { line } => Refusal::at_byte(Reason::BadSheet, line, 0),
-            SheetFault::OutOfRange { line } => Refusal::at_byte(Reason::OutOfRange, line, 0),
+            SheetFault::TooLong => Refusal::bare(Reason::BadSheet.number()),
+            SheetFault::BadLine { line } => Refusal::at_byte(Reason::BadSheet.number(), line, 0),
+            SheetFault::OutOfRange { line } => Refusal::at_byte(
+                Reason::OutOfRange.number(),
+                line,
+                0,
+            ),
         }
     }
 }

@@ -9,7 +9,7 @@ pub mod writing;
 mod tests {
     use crate::writing::run;
     use text::memory::Short;
-    use text::refusal::{Reason, Refusal};
+    use text::refusal::Refusal;
 
     #[test]
     fn an_answer_that_just_fits_is_written(rt: HostRuntime) {
@@ -23,7 +23,7 @@ mod tests {
         let mut memory = [b'.'; 2];
         assert_eq!(rt; run(Some(b"1,1\n\na-b"), &mut memory).ok(), None);
         assert_eq!(rt; memory, *b"..");
-        assert_eq!(rt; Refusal::from(Short), Refusal::bare(Reason::ShortMemory));
+        assert_eq!(rt; Refusal::from(Short), Refusal::bare(15));
     }
 
     #[test]

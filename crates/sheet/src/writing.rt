@@ -27,7 +27,7 @@ pub fn write_refusal(refusal: Refusal, memory: &mut [u8]) -> Result<usize, Short
 {
     // Lines are written into lent memory, which may be too short, so that they are no `Display`.
     let six = [
-        u64::from(refusal.reason.number()),
+        u64::from(refusal.number),
         refusal.line as u64,
         refusal.column as u64,
         refusal.level as u64,

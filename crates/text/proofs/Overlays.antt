@@ -1,10 +1,7 @@
 -- Text that is written over memory: one text after another is the two in one.
-use Rattle.std.proofs.Common.{◌≡◌, ℕ, ◌+◌, ◌≤◌, List, [], ◌++◌, length, take, drop, sym, ap, ◌∙◌, ap₂, append_assoc, add-zero, arith}
-use Rattle.std.proofs.lemmas.List.{length-append, length-take-le, take-append-drop, take_at, drop_at, drop-drop}
+use Rattle.std.proofs.Common.{◌≡◌, ℕ, ◌+◌, ◌≤◌, List, ◌++◌, length, take, drop, sym, ap, ◌∙◌, ap₂, append_assoc, arith}
+use Rattle.std.proofs.lemmas.List.{length-append, length-take-le, take_at, drop_at, drop-drop}
 use Rattle.text.specs.Written.{overlaid}
-
-pub overlaid_none : (m : List ℕ) (at : ℕ) → overlaid m at [] ≡ m
-overlaid_none m at = rw add-zero (take-append-drop at m)
 
 -- where the text ends
 front_length : (m : List ℕ) (at : ℕ) (s : List ℕ) → at + length s ≤ length m → length (take at m ++ s) ≡ at + length s

@@ -48,7 +48,7 @@ Numbered number (Err none) = (number ≡ 0) ⊎ (16 < number)
 
 -- the six numbers of a refusal
 abbrev pub six_of : Refusal → Refused
-six_of r = number_of r.reason ∷ r.line ∷ r.column ∷ r.level ∷ r.length ∷ r.place ∷ []
+six_of r = r.number ∷ r.line ∷ r.column ∷ r.level ∷ r.length ∷ r.place ∷ []
 
 -- text memory that is shorter than the text
 abbrev pub short_refused : Refused

@@ -17,7 +17,7 @@ impl From<Short> for Refusal {
     ghost from_gives = { λ _ r. six_of r ≡ short_refused };
 
     fn from(_short: Short) -> Refusal {
-        Refusal::bare(Reason::ShortMemory)
+        Refusal::bare(Reason::ShortMemory.number())
     }
 }
 

@@ -81,11 +81,11 @@ impl TryFrom<u8> for Reason {
     }
 }
 
-/// A refusal: its reason; the line and the column of the text, from 1; the level, length and place of the pass that met it.
-/// A number that it has not is 0, as in the line that is printed of it.
+/// A refusal by its six numbers, as its line prints them: that of its reason; the line and the column of the text, from 1; the
+/// level, length and place of the pass that met it. A number that it has not is 0.
 #[derive(Clone, Copy, PartialEq, Eq, Debug)]
 pub struct Refusal {
-    pub reason: Reason,
+    pub number: u8,
     pub line: usize,
     pub column: usize,
     pub level: usize,
@@ -94,19 +94,19 @@ pub struct Refusal {
 }
 
 impl Refusal {
-    /// A refusal with its reason alone.
-    pub fn bare(reason: Reason) -> Refusal
-        ensures { six_of result ≡ bare (number_of reason) }
+    /// A refusal with its number alone.
+    pub fn bare(number: u8) -> Refusal
+        ensures { six_of result ≡ bare number }
     {
-        Refusal::at_byte(reason, 0, 0)
+        Refusal::at_byte(number, 0, 0)
     }
 
     /// A refusal of a byte of a text, or of a whole line, where `column` is 0.
-    pub fn at_byte(reason: Reason, line: usize, column: usize) -> Refusal
-        ensures { six_of result ≡ at_byte (number_of reason) line column }
+    pub fn at_byte(number: u8, line: usize, column: usize) -> Refusal
+        ensures { six_of result ≡ at_byte number line column }
     {
         Refusal {
-            reason,
+            number,
             line,
             column,
             level: 0,

@@ -74,9 +74,6 @@ module _ {V : Type 0} (K : Kind V) (cs cs₁ cs₂ : List (Cell V)) (used u₁ c
   inner : k ≢ 0
   inner = not_root K cs₁ u₁ d.tree w some k d.spelled
 
-  same_ups : ups cs₂ u₁ ≡ ups cs₁ u₁
-  same_ups = ap (λ l. parent l u₁) jo.same_links
-
   same_path : (i : ℕ) → spelling_at cs₂ u₁ i ≡ spelling_at cs₁ u₁ i
   same_path i = ap (λ l. path l (parent l u₁) i) jo.same_links
 

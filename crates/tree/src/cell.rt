@@ -3,8 +3,9 @@ ghost use Rattle.std.specs.Prelude.{◌≡◌};
 ghost use Rattle.tree.specs.Numbers.{cell_of};
 
 /// The place of a cell in the tree: its symbol, its first child and its next sibling, whose symbol is greater. Cells are lent
-/// with any contents, so that a link is a plain number: 0, the number of the root, stands for no cell.
-#[derive(Clone, Copy)]
+/// with any contents, and 0, the number of the root, stands for no cell.
+// An `Option` of a number has twice the room of the number, in each link of the lent memory: `child` and `sibling` give one.
+#[derive(Clone, Copy, Default)]
 pub struct Link {
     pub symbol: u8,
     pub first: usize,

@@ -15,6 +15,7 @@ pub(crate) fn clear<V: Joining>(cells: &mut [Cell<V>]) -> usize
     if cells.is_empty() {
         return 0;
     }
+    // the root alone: no child, and no sibling
     let link = Link {
         symbol: 0,
         first: 0,

@@ -22,6 +22,7 @@ pub(crate) fn insert<V: Copy>(
     ensures links { Grown (links cells.old) (links cells.new) used parent symbol (number_of place.before) (number_of place.here) }
     ensures values { Kept (values cells.old) (values cells.new) used value }
 {
+    // a cell with no child yet
     let link = Link {
         symbol,
         first: 0,

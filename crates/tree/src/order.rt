@@ -23,6 +23,7 @@ pub struct Turn {
 
 /// A cell, and its spelling, the first `len` of `symbols`, behind which there is only 0. It may have no letter yet, so that it is
 /// no `Spelling`.
+// An array with its length, as the spelling that is made of it.
 #[derive(Clone, Copy)]
 pub struct Way {
     pub cell: usize,

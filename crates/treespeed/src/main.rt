@@ -19,11 +19,7 @@ fn answer(rt: &HostRuntime) -> anyhow::Result<()> {
     let mut input = Vec::new(rt.alloc());
     rt.stdin().read_to_end(&mut input)?;
     let patterns = read_all(rt.alloc(), input.as_slice())?;
-    let link = Link {
-        symbol: 0,
-        first: 0,
-        next: 0,
-    };
+    let link = Link::default();
     let value = Row::none();
     let count = patterns.len().saturating_mul(15).saturating_add(1);
     let mut cells = vec![in rt.alloc(); Cell { link, value }; count]?;

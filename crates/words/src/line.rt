@@ -30,8 +30,8 @@ fn classify(b: u8) -> Option<Kind>
     ensures { result ≡ kind_of b }
 {
     match b {
-        b'a'..=b'z' => Some(Kind::Letter(b - 96)),
-        b'A'..=b'Z' => Some(Kind::Letter(b - 64)),
+        b'a'..=b'z' => Some(Kind::Letter(b - b'a' + 1)),
+        b'A'..=b'Z' => Some(Kind::Letter(b - b'A' + 1)),
         b'-' | b'*' => Some(Kind::Mark(true)),
         b'.' => Some(Kind::Mark(false)),
         _ => None,
@@ -55,7 +55,7 @@ pub fn read_line(line: usize, bytes: &[u8]) -> Result<Option<Word>, LineFault>
     if bytes.is_empty() {
         return Ok(None);
     }
-    // No heap: the letters stand in an array, and how many came beside them.
+    // An array, as the word keeps it: a vector of fixed room would be copied out at the end.
     let mut letters = [0; LONGEST];
     let mut len = 0;
     let mut marks: u64 = 0;

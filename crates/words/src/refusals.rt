@@ -13,13 +13,13 @@ impl From<LineFault> for Refusal {
     fn from(fault: LineFault) -> Refusal {
         match fault {
             LineFault::NoLetter { line, column } => {
-                Refusal::at_byte(Reason::NoLetter, line, column)
+                Refusal::at_byte(Reason::NoLetter.number(), line, column)
             }
             LineFault::LooseMark { line, column } => {
-                Refusal::at_byte(Reason::LooseMark, line, column)
+                Refusal::at_byte(Reason::LooseMark.number(), line, column)
             }
             LineFault::TooLong { line, column } => {
-                Refusal::at_byte(Reason::LongWord, line, column)
+                Refusal::at_byte(Reason::LongWord.number(), line, column)
             }
         }
     }
@@ -29,6 +29,6 @@ impl From<OutOfRange> for Refusal {
     ghost from_gives = { λ _ r. six_of r ≡ range_refused };
 
     fn from(_fault: OutOfRange) -> Refusal {
-        Refusal::bare(Reason::OutOfRange)
+        Refusal::bare(Reason::OutOfRange.number())
     }
 }

@@ -7,11 +7,6 @@ use Rattle.tree.proofs.Walks.{at_here, here_within}
 use Rattle.tree.proofs.Steps.{step_found, step_made}
 use Rattle.tree.proofs.linked.Linked.step.Goals as goal
 
-pub met-requires : goal.met-requires
-met-requires g c =
-    let t = c.args.self.now in
-    here_within (links t.cells.now) (ups t.cells.now t.used) t.used (tree_of t) c.args.at c.args.symbol c.requires.within c.gap-place.result.before c.gap-place.result.here c.gap-place.ensures
-
 pub returns-in-Some : goal.returns-in-Some
 returns-in-Some g c =
     let t = c.args.self.now in
