@@ -4,7 +4,13 @@
 //! tried on a table and on a tree, which must answer alike.
 #![tactic(auto)]
 
-ghost use Rattle.std.specs.Prelude.{◌≤◌};
+ghost use Rattle.std.specs.Prelude.{◌≡◌, ◌≤◌, [], ◌∷◌, ◌++◌, string_bytes, OnOk, IfOk};
+ghost use Rattle.words.specs.Line.{reading, spells};
+ghost use Rattle.words.specs.Views.{headword};
+ghost use Rattle.text.specs.Refusals.{six_of};
+ghost use Rattle.sheet.specs.Outcomes.{refusal_line};
+ghost use Rattle.patterns.specs.Texts.{text_of};
+ghost use Rattle.patterns.specs.Views.{symbols_of};
 ghost use Rattle.bookcheck.specs.declared.TheConstants.{MOST};
 
 use anyhow::{Context, ensure};
@@ -99,7 +105,9 @@ fn bounds_of(text: &str) -> anyhow::Result<Bounds> {
         .context("bounds out of range")
 }
 
-fn word_of(text: &str) -> anyhow::Result<Word> {
+fn word_of(text: &str) -> anyhow::Result<Word>
+    ensures { IfOk result (λ word. reading 1 text.now ≡ spells (headword word)) }
+{
     read_line(1, text.as_bytes())?.context("no word")
 }
 
@@ -148,7 +156,10 @@ fn fill<B: WritingBook>(book: &mut B, texts: &str) -> anyhow::Result<Option<Refu
     Ok(None)
 }
 
-fn tell_pattern(told: &mut String, spelling: Spelling, row: Row) -> anyhow::Result<()> {
+/// Adds the pattern's text and a space.
+fn tell_pattern(told: &mut String, spelling: Spelling, row: Row) -> anyhow::Result<()>
+    ensures { OnOk result (string_bytes told.new ≡ string_bytes told.old ++ text_of (symbols_of spelling, row.values) ++ 32 ∷ []) }
+{
     let mut text = [0; LINE];
     let pattern = Pattern::new(spelling, row).context("a spelling is held without a value")?;
     let n = pattern.write(&mut text)?;
@@ -157,7 +168,10 @@ fn tell_pattern(told: &mut String, spelling: Spelling, row: Row) -> anyhow::Resu
     Ok(())
 }
 
-fn tell_refusal(heap: Global, refusal: Refusal) -> anyhow::Result<String> {
+/// The line of a refusal.
+fn tell_refusal(heap: Global, refusal: Refusal) -> anyhow::Result<String>
+    ensures { IfOk result (λ line. string_bytes line ≡ refusal_line (six_of refusal)) }
+{
     let mut text = [0; LINE];
     let n = write_refusal(refusal, &mut text)?;
     Ok(String::from_str(heap, str::from_utf8(&text[..n])?)?)

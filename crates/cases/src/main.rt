@@ -2,11 +2,13 @@
 //! front of the next such line, or with the input. Every case is answered by its first line and the run's line.
 #![tactic(auto)]
 
-ghost use Rattle.std.specs.Prelude.{ℕ, ◌<◌, ◌≤◌, length, Decides};
-ghost use Rattle.cases.specs.Parted.{CaseAt};
+ghost use Rattle.std.specs.Prelude.{◌≡◌, ℕ, ◌<◌, ◌≤◌, [], length, get_or, Decides, OnOk};
+ghost use Rattle.std.specs.Io.KnownBytes.{Appends};
+ghost use Rattle.text.specs.Lines.{lines_of, behind_line};
+ghost use Rattle.cases.specs.Parted.{CaseAt, answer_to};
 
 use sheet::writing::{LINE, run};
-use std::io::Read;
+use std::io::{Read, Write};
 use text::cursor::Lines;
 use text::printing::print_line;
 
@@ -30,15 +32,27 @@ fn next_case(text: &[u8], from: usize) -> usize
         .unwrap_or(text.len())
 }
 
-// Writes the first line of a case and what the run on the rest answers.
-fn show(rt: &HostRuntime, case: &[u8]) -> anyhow::Result<()> {
+// The first line of a case, which says what it shows, and the sheet behind it.
+fn parts_of(case: &[u8]) -> (&[u8], &[u8])
+    ensures title { result.0.now ≡ get_or (lines_of case.now) 0 [] }
+    ensures sheet { result.1.now ≡ behind_line case.now }
+{
     let mut lines = Lines::new(case);
-    let title = lines.next().unwrap_or(b"");
+    match lines.next() {
+        Some(title) => (title, lines.rest),
+        None => (case, case),
+    }
+}
+
+// Writes the first line of a case and what the run on the rest answers.
+fn show<W: Write>(to: &mut W, case: &[u8]) -> anyhow::Result<()>
+    ensures { OnOk result (Appends (W.contents to.old) (W.contents to.new) (answer_to case.now)) }
+{
+    let (title, sheet) = parts_of(case);
     let mut line = [0; LINE];
-    let n = run(Some(lines.rest), &mut line)?;
-    let mut stdout = rt.stdout();
-    print_line(&mut stdout, title)?;
-    print_line(&mut stdout, &line[..n])?;
+    let n = run(Some(sheet), &mut line)?;
+    print_line(to, title)?;
+    print_line(to, &line[..n])?;
     Ok(())
 }
 
@@ -49,7 +63,7 @@ fn show_all(rt: &HostRuntime, text: &[u8]) -> anyhow::Result<()> {
         let (case, after) = rest.split_at(next_case(rest, 1));
         // the line feed in front of the next case is not in this one
         let feeds = if after.is_empty() { 0 } else { 1 };
-        show(rt, &case[..case.len() - feeds])?;
+        show(&mut rt.stdout(), &case[..case.len() - feeds])?;
         rest = after;
     }
     Ok(())

@@ -1,12 +1,15 @@
 //! Checks a word list of any size: `listcheck left,right FILE`.
 #![tactic(auto)]
 
-ghost use Rattle.std.specs.Prelude.{◌≡◌, IfOk, slice_index};
+ghost use Rattle.std.specs.Prelude.{◌≡◌, [], ◌∷◌, ◌++◌, IfOk, OnOk, slice_index};
+ghost use Rattle.std.specs.Io.KnownBytes.{Appends};
 ghost use Rattle.sheet.specs.Sheets.{figures_in};
+ghost use Rattle.sheet.specs.Outcomes.{outcome_line, words_outcome};
 
 use anyhow::Context;
 use sheet::reading::check_words;
 use sheet::writing::{LINE, write_outcome};
+use std::io::Write;
 use std::{env, fs};
 use text::figures::read_figures;
 use text::printing::print_line;
@@ -24,6 +27,16 @@ fn bounds(argument: &str) -> anyhow::Result<Bounds>
         .context("each bound is 1 to 8")
 }
 
+// Writes what the check of a word list answers, and a line feed.
+fn tell<W: Write>(to: &mut W, words: &[u8], bounds: Bounds) -> anyhow::Result<()>
+    ensures { OnOk result (Appends (W.contents to.old) (W.contents to.new) (outcome_line (words_outcome bounds.left bounds.right words.now) ++ 10 ∷ [])) }
+{
+    let mut line = [0; LINE];
+    let n = write_outcome(check_words(words, bounds), &mut line)?;
+    print_line(to, &line[..n])?;
+    Ok(())
+}
+
 fn answer(rt: &HostRuntime) -> anyhow::Result<()> {
     let mut args = env::args(rt)?;
     let _ = args.next();
@@ -33,10 +46,7 @@ fn answer(rt: &HostRuntime) -> anyhow::Result<()> {
         .context("usage: listcheck left,right FILE")?;
     let bounds = bounds(first.as_str())?;
     let text = fs::read(rt, path.as_str())?;
-    let mut line = [0; LINE];
-    let n = write_outcome(check_words(text.as_slice(), bounds), &mut line)?;
-    print_line(&mut rt.stdout(), &line[..n])?;
-    Ok(())
+    tell(&mut rt.stdout(), text.as_slice(), bounds)
 }
 
 fn main(rt: HostRuntime) -> anyhow::Result<()> {

@@ -1,12 +1,15 @@
 //! The program: reads a sheet from standard input, and writes what the run on it answers.
 #![tactic(auto)]
 
-ghost use Rattle.std.specs.Prelude.{◌≤◌, length, IfOk};
+ghost use Rattle.std.specs.Prelude.{◌≤◌, [], ◌∷◌, ◌++◌, length, IfOk, OnOk};
+ghost use Rattle.std.specs.Io.KnownBytes.{Appends};
+ghost use Rattle.sheet.specs.Views.{kept};
+ghost use Rattle.sheet.specs.Outcomes.{checked, outcome_line};
 
 use sheet::reading::LARGEST;
 use sheet::writing::{LINE, run};
 use std::io;
-use std::io::Read;
+use std::io::{Read, Write};
 use text::printing::print_line;
 
 // Fills the buffer from its front, and answers how many bytes came.
@@ -25,17 +28,24 @@ fn fill<R: Read>(from: &mut R, buffer: &mut [u8]) -> io::Result<usize>
     Ok(len)
 }
 
+// Writes what the run on a sheet answers, and a line feed.
+fn tell<W: Write>(to: &mut W, input: Option<&[u8]>) -> anyhow::Result<()>
+    ensures { OnOk result (Appends (W.contents to.old) (W.contents to.new) (outcome_line (checked (kept input.entry)) ++ 10 ∷ [])) }
+{
+    let mut line = [0; LINE];
+    let n = run(input, &mut line)?;
+    print_line(to, &line[..n])?;
+    Ok(())
+}
+
 fn answer(rt: &HostRuntime) -> anyhow::Result<()> {
     let mut buffer = [0; LARGEST];
     let mut more = [0; 1];
-    let mut line = [0; LINE];
     let mut stdin = rt.stdin();
     let len = fill(&mut stdin, &mut buffer)?;
     let longer = fill(&mut stdin, &mut more)? > 0;
     let input = if longer { None } else { Some(&buffer[..len]) };
-    let n = run(input, &mut line)?;
-    print_line(&mut rt.stdout(), &line[..n])?;
-    Ok(())
+    tell(&mut rt.stdout(), input)
 }
 
 fn main(rt: HostRuntime) -> anyhow::Result<()> {
