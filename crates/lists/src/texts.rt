@@ -1,7 +1,7 @@
 //! The word list over the bytes of a text.
 ghost use Rattle.std.specs.Prelude.{◌≡◌, ℕ, ◌+◌, ◌≤◌, length};
 ghost use Rattle.text.specs.Lines.{lines_of};
-ghost use Rattle.text.specs.Cursor.{unread};
+ghost use Rattle.text.specs.Cursor.{unread, Follows};
 ghost use Rattle.lists.specs.Texts.{content_from, text_content, Listed};
 ghost use Rattle.lists.specs.Few.{text_few};
 ghost use Rattle.lists.specs.Calls.{Gives};
@@ -15,7 +15,8 @@ use words::word::Word;
 
 // The next word of a text of which `read` words have been read.
 fn next_word<'a>(lines: &mut Lines<'a>, read: usize) -> Result<Option<Word>, ListFault>
-    ensures { Gives (content_from (lines.old.number + 1) read (lines_of (unread lines.old))) result (content_from (lines.new.number + 1) (read + 1) (lines_of (unread lines.new))) }
+    ensures inside { Follows lines.old lines.new }
+    ensures gives { Gives (content_from (lines.old.number + 1) read (lines_of (unread lines.old))) result (content_from (lines.new.number + 1) (read + 1) (lines_of (unread lines.new))) }
 {
     // No `for`, which would take the lines: they are asked for the number of each.
     while let Some(line) = lines.next() {

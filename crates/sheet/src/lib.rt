@@ -7,7 +7,9 @@ pub mod writing;
 
 #[cfg(test)]
 mod tests {
+    use crate::reading::read_sheet;
     use crate::writing::run;
+    use std::test::Fail;
     use text::memory::Short;
     use text::refusal::Refusal;
 
@@ -31,5 +33,16 @@ mod tests {
         let mut memory = [b'.'; 24];
         assert_eq!(rt; run(None, &mut memory).ok(), Some(20));
         assert_eq!(rt; memory, *b"refused,16,0,0,0,0,0....");
+    }
+
+    #[test]
+    fn a_sheet_outlives_the_bytes_that_it_was_read_from(rt: HostRuntime) -> Result<(), Fail> {
+        let mut bytes = *b"2,3\n\nta-ble";
+        let sheet = read_sheet(Some(&bytes)).ok().ok_or("no sheet")?;
+        bytes[0] = b'9';
+        assert_eq!(rt; sheet.bounds.left, 2);
+        assert_eq!(rt; sheet.words_at, 5);
+        assert_eq!(rt; bytes[0], b'9');
+        Ok(())
     }
 }

@@ -1,8 +1,8 @@
 //! Reading a sheet, and checking the word list in it.
-ghost use Rattle.std.specs.Prelude.{◌≡◌};
+ghost use Rattle.std.specs.Prelude.{◌≡◌, ◌≤◌, length, IfOk};
 ghost use Rattle.sheet.specs.Sheets.{sheet_of};
 ghost use Rattle.sheet.specs.Outcomes.{words_outcome, checked};
-ghost use Rattle.sheet.specs.Views.{kept, sheeted, outcome};
+ghost use Rattle.sheet.specs.Views.{kept, bytes_in, sheeted, outcome};
 ghost use Rattle.sheet.specs.Taken.{Taken};
 
 use crate::fault::{RunFault, SheetFault};
@@ -15,11 +15,12 @@ use words::word::Bounds;
 /// The most bytes of a sheet.
 pub const LARGEST: usize = 49_152;
 
-/// A sheet that was read: the bounds, and the text of the word lines.
+/// A sheet that was read: the bounds, and the byte at which the word lines begin.
+// A number and no slice: so the sheet outlives the bytes that it was read from, as its caller may need.
 #[derive(Clone, Copy)]
-pub struct Sheet<'a> {
+pub struct Sheet {
     pub bounds: Bounds,
-    pub words: &'a [u8],
+    pub words_at: usize,
 }
 
 // The next line of a sheet, as `read` takes it. The line is bad where `read` takes nothing, and where it is missing.
@@ -40,8 +41,9 @@ fn take<'a, T, F: FnOnce(&[u8]) -> Option<T>>(
 }
 
 /// Reads a sheet from the bytes that came, or from nothing, where more came than a sheet can have.
-pub fn read_sheet(input: Option<&[u8]>) -> Result<Sheet<'_>, SheetFault>
-    ensures { sheeted result ≡ sheet_of (kept input.entry) }
+pub fn read_sheet(input: Option<&[u8]>) -> Result<Sheet, SheetFault>
+    ensures value { sheeted (kept input.entry) result ≡ sheet_of (kept input.entry) }
+    ensures inside { IfOk result (λ s. s.words_at ≤ length (bytes_in (kept input.entry))) }
 {
     let Some(input) = input else {
         return Err(SheetFault::TooLong);
@@ -55,7 +57,7 @@ pub fn read_sheet(input: Option<&[u8]>) -> Result<Sheet<'_>, SheetFault>
     match Bounds::new(left as usize, right as usize) {
         Ok(bounds) => Ok(Sheet {
             bounds,
-            words: lines.rest,
+            words_at: input.len() - lines.rest.len(),
         }),
         Err(_) => Err(SheetFault::OutOfRange { line: 1 }),
     }
@@ -74,5 +76,7 @@ pub fn check(input: Option<&[u8]>) -> Result<ListCounts, RunFault>
     ensures { outcome result ≡ checked (kept input.entry) }
 {
     let sheet = read_sheet(input)?;
-    check_words(sheet.words, sheet.bounds)
+    let from = sheet.words_at;
+    // a sheet was read, so that bytes were kept
+    check_words(&input.unwrap_or(b"")[from..], sheet.bounds)
 }

@@ -1,4 +1,5 @@
 pub mod Splitting
+pub mod Ends
 pub mod Padding
 mod Commas
 mod Pieces

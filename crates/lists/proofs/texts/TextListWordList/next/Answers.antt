@@ -16,5 +16,5 @@ invariant_of-self c =
     let n = l.read in
     let all = content_from (l.lines.number + 1) n (lines_of (unread l.lines)) in
     let rest = content_from (c.next_word.new.lines.number + 1) (n + 1) (lines_of (unread c.next_word.new.lines)) in
-    let p = word_taken (text_words t) (text_ending t) n all rest c.in_ok-word.word (sym c.is_some.ensures ∙ c.if-is_some.true) c.in_ok-word.ensures l.left l.ends in
-    record { some = p.0; left = p.1; ends = p.2 }
+    let p = word_taken (text_words t) (text_ending t) n all rest c.in_ok-word.word (sym c.is_some.ensures ∙ c.if-is_some.true) c.in_ok-word.ensures.gives l.left l.ends in
+    record { inside = c.in_ok-word.ensures.inside t l.inside; some = p.0; left = p.1; ends = p.2 }
