@@ -1,9 +1,8 @@
 //! The program: reads a sheet from standard input, and writes what the run on it answers.
 #![tactic(auto)]
 
-ghost use Rattle.std.specs.Prelude.{◌≤◌, [], ◌∷◌, ◌++◌, length, IfOk, OnOk};
+ghost use Rattle.std.specs.Prelude.{◌≤◌, [], ◌∷◌, ◌++◌, length, Some, None, if◌then◌else◌, IfOk, OnOk};
 ghost use Rattle.std.specs.Io.KnownBytes.{Appends};
-ghost use Rattle.sheet.specs.Views.{kept};
 ghost use Rattle.sheet.specs.Outcomes.{checked, outcome_line};
 
 use sheet::reading::LARGEST;
@@ -28,10 +27,12 @@ fn fill<R: Read>(from: &mut R, buffer: &mut [u8]) -> io::Result<usize>
     Ok(len)
 }
 
-// Writes what the run on a sheet answers, and a line feed.
-fn tell<W: Write>(to: &mut W, input: Option<&[u8]>) -> anyhow::Result<()>
-    ensures { OnOk result (Appends (W.contents to.old) (W.contents to.new) (outcome_line (checked (kept input.entry)) ++ 10 ∷ [])) }
+// Writes what the run on a sheet answers, and a line feed. `longer` says that more came than the bytes that were kept: it is told
+// here, so that the contract has what comes of it.
+fn tell<W: Write>(to: &mut W, bytes: &[u8], longer: bool) -> anyhow::Result<()>
+    ensures { OnOk result (Appends (W.contents to.old) (W.contents to.new) (outcome_line (checked (if longer then None else Some bytes.now)) ++ 10 ∷ [])) }
 {
+    let input = if longer { None } else { Some(bytes) };
     let mut line = [0; LINE];
     let n = run(input, &mut line)?;
     print_line(to, &line[..n])?;
@@ -44,8 +45,7 @@ fn answer(rt: &HostRuntime) -> anyhow::Result<()> {
     let mut stdin = rt.stdin();
     let len = fill(&mut stdin, &mut buffer)?;
     let longer = fill(&mut stdin, &mut more)? > 0;
-    let input = if longer { None } else { Some(&buffer[..len]) };
-    tell(&mut rt.stdout(), input)
+    tell(&mut rt.stdout(), &buffer[..len], longer)
 }
 
 fn main(rt: HostRuntime) -> anyhow::Result<()> {
