@@ -54,9 +54,12 @@ module _ {V : Type 0} (K : Kind V) (cs : List (Cell V)) (used count : ℕ) where
     ruled = all_prop (λ e. Ruled e.0) (λ e. ruled_prop e.0) _ x.ruled y.ruled i;
   }
 
+  pub stands_from : ∥ Stands K cs used count ∥₁ → Stands K cs used count
+  stands_from s = ∥∥₁_elim s stands_prop (λ x. x)
+
 -- what every value of the two types keeps
 pub tree_of : {V : Type 0} (t : Linked V) → IsTree t.cells.now t.used
 tree_of t = ∥∥₁_elim t.tree (shape_prop (links t.cells.now) (ups t.cells.now t.used) t.used) (λ x. x)
 
 pub standing : {V : Type 0} (K : Kind V) (t : Linked V) (count : ℕ) → ∥ Stands K t.cells.now t.used count ∥₁ → Stands K t.cells.now t.used count
-standing K t count s = ∥∥₁_elim s (stands_prop K t.cells.now t.used count) (λ x. x)
+standing K t count s = stands_from K t.cells.now t.used count s

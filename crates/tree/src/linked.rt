@@ -10,6 +10,6 @@ use crate::cell::Cell;
 pub struct Linked<'a, V> {
     pub cells: &'a mut [Cell<V>],
     pub used: usize,
-    ghost tree: { ∥ IsTree cells.now used ∥₁ },
-    ghost room: { used ≤ length cells.now },
+    pub ghost tree: { ∥ IsTree cells.now used ∥₁ },
+    pub ghost room: { used ≤ length cells.now },
 }

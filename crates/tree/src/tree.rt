@@ -6,7 +6,7 @@ ghost use Rattle.books.specs.Calls.{spelling};
 ghost use Rattle.tree.specs.Meanings.{Sound};
 ghost use Rattle.tree.specs.Orderless.{AnyOrder};
 ghost use Rattle.tree.specs.Holds.{held, cells_of, most_of};
-ghost use Rattle.tree.specs.Stands.{Stands, TreeJoins, Adding};
+ghost use Rattle.tree.specs.Stands.{limit_of, Stands, TreeJoins, Adding};
 
 use crate::cell::Cell;
 use crate::clear::clear;
@@ -20,7 +20,14 @@ use patterns::pattern::Spelling;
 pub struct Tree<'a, V: Joining> {
     pub linked: Linked<'a, V>,
     pub count: usize,
-    ghost stands: { ∥ Stands V.kind linked.cells.now linked.used count ∥₁ },
+    pub ghost stands: { ∥ Stands V.kind linked.cells.now linked.used count ∥₁ },
+}
+
+/// How many spellings so many cells can hold, whatever stands in them: 0 below 16 cells, and else a fifteenth of the cells but one.
+pub fn spellings_in(cells: usize) -> usize
+    ensures { result ≡ limit_of cells }
+{
+    cells.saturating_sub(1) / 15
 }
 
 impl<'a, V: Joining> Tree<'a, V> {
@@ -34,12 +41,12 @@ impl<'a, V: Joining> Tree<'a, V> {
         Tree { linked, count: 0 }
     }
 
-    /// How many spellings the tree can hold: 0 below 16 cells, and else a fifteenth of the cells but one.
+    /// How many spellings the tree can hold: as many as its cells can.
     pub fn limit(&self) -> usize
         ensures value { result ≡ most_of self.now.linked }
         ensures within { length (held V.kind self.now.linked) ≤ result }
     {
-        self.linked.cells.len().saturating_sub(1) / 15
+        spellings_in(self.linked.cells.len())
     }
 
     /// How many spellings hold something, each in its place in the order and none with a nothing.
