@@ -1,9 +1,9 @@
 -- Writing a text: one symbol and one value more, and the memory behind.
-use Rattle.std.proofs.Common.{◌≡◌, ℕ, zero, suc, ◌+◌, ◌<◌, ◌≤◌, cond, ltb, List, [], ◌∷◌, ◌++◌, length, get_or, take, drop, set, sym, refl, ap, ◌∙◌, ap₂, append_assoc, append-nil, add-zero, add-one, arith}
+use Rattle.std.proofs.Common.{◌≡◌, ℕ, zero, suc, ◌+◌, ◌<◌, ◌≤◌, ltb, List, [], ◌∷◌, ◌++◌, length, get_or, take, drop, set, sym, refl, ap, ◌∙◌, ap₂, append_assoc, append-nil, add-zero, add-one, arith}
 use native.Mathlib.Decide.{le_ind}
 use Rattle.std.proofs.lemmas.List.{set_at, length-append, drop_more, drop-set-lt, length-take-le}
-use Rattle.std.specs.List.{count_by, filter}
-use Rattle.std.proofs.lemmas.List.Sums.{count_by_more_no, count_by_more_yes, length-filter}
+use Rattle.std.specs.List.{count_by}
+use Rattle.std.proofs.lemmas.List.Sums.{count_by_more_no, count_by_more_yes}
 use Rattle.std.proofs.lemmas.Bool.{le-ltb, lt-ltb}
 use Rattle.patterns.specs.Spellings.{longest}
 use Rattle.patterns.specs.Texts.{digit, byte_of, text_to, with_digit}
@@ -11,6 +11,11 @@ use Rattle.patterns.specs.Texts.{digit, byte_of, text_to, with_digit}
 pub text_more : (ss vs : List ℕ) (k : ℕ) → text_to ss vs (k + 1) ≡ text_to ss vs k ++ byte_of (get_or ss k 0) ∷ digit (get_or vs (k + 1) 0)
 unfolding text_to
 text_more ss vs k = ap (text_to ss vs) (add-one k) ∙ ap (λ (x : ℕ). text_to ss vs k ++ byte_of (get_or ss k 0) ∷ digit (get_or vs x 0)) (sym (add-one k))
+
+-- a value has a digit, or none
+pub digit_le : (v : ℕ) → length (digit v) ≤ 1
+digit_le zero = omega arith
+digit_le (suc v) = omega arith
 
 pub len_more : (ss vs : List ℕ) (k : ℕ) → length (text_to ss vs (k + 1)) ≡ length (text_to ss vs k) + (1 + length (digit (get_or vs (k + 1) 0)))
 len_more ss vs k =
@@ -39,19 +44,8 @@ values_counted ss vs (suc k) h =
     let d = ap (λ (j : ℕ). count_by (λ x. ltb 0 x) (take j vs)) (add-one k) in
     omega arith
 
-counted_front : (n : ℕ) (vs : List ℕ) → ((k : ℕ) → n ≤ k → get_or vs k 0 ≡ 0) → filter (λ x. ltb 0 x) vs ≡ filter (λ x. ltb 0 x) (take n vs)
-counted_front zero [] z = refl
-counted_front zero (zero ∷ vs) z = counted_front zero vs (λ k _. z (suc k) (omega arith))
-counted_front zero (suc v ∷ vs) z = absurd (omega (arith, z 0 (omega arith)))
-counted_front (suc n) [] z = refl
-counted_front (suc n) (v ∷ vs) z = ap (λ (r : List ℕ). cond (ltb 0 v) (v ∷ r) r) (counted_front n vs (λ k h. z (suc k) (omega arith)))
-
-pub text_counted : (ss vs : List ℕ) (n : ℕ) → length ss ≡ n → n < length vs → ((k : ℕ) → n < k → get_or vs k 0 ≡ 0) → n + length (filter (λ x. ltb 0 x) vs) ≡ length (text_to ss vs (length ss))
-text_counted ss vs n e h z =
-    ap (λ (c : List ℕ). n + length c) (counted_front (n + 1) vs (λ k l. z k (omega arith)))
-    ∙ ap (λ (c : ℕ). n + c) (length-filter (λ x. ltb 0 x) (take (n + 1) vs))
-    ∙ sym (values_counted ss vs n h)
-    ∙ ap (λ (k : ℕ). length (text_to ss vs k)) (sym e)
+pub text_counted : (ss vs : List ℕ) (n : ℕ) → length ss ≡ n → n < length vs → n + count_by (λ x. ltb 0 x) (take (n + 1) vs) ≡ length (text_to ss vs (length ss))
+text_counted ss vs n e h = sym (values_counted ss vs n h) ∙ ap (λ (k : ℕ). length (text_to ss vs k)) (sym e)
 
 -- ---- the bytes
 

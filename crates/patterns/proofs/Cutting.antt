@@ -1,8 +1,8 @@
 -- Padded words, their symbols and their parts.
-use Rattle.std.proofs.Common.{◌≡◌, ℕ, zero, suc, ◌+◌, ◌-◌, ◌<◌, ◌≤◌, Bool, ◌&&◌, leb, ◌⊎◌, List, [], ◌∷◌, length, get_or, take, drop, sym, refl, ap, ◌∙◌, inl, inr, arith}
-use Rattle.std.proofs.lemmas.List.{get_or-append_right, get_or-take, get_or-drop, length-take-le, length-drop, length-append, ext_get_or}
-use Rattle.std.proofs.lemmas.Bool.{le-leb}
-use Rattle.words.specs.Words.{Headword}
+use Rattle.std.proofs.Common.{◌≡◌, ℕ, zero, suc, ◌+◌, ◌-◌, ◌<◌, ◌≤◌, Bool, ◌&&◌, leb, ◌⊎◌, List, [], ◌∷◌, length, get_or, take, drop, sym, refl, ap, ◌∙◌, inl, inr, ⊎_elim, arith}
+use Rattle.std.proofs.lemmas.List.{get_or_append_left, get_or-append_right, get_or-take, get_or-drop, length-take-le, length-drop, length-append, ext_get_or}
+use Rattle.std.proofs.lemmas.Bool.{cases_lt, le-leb}
+use Rattle.words.specs.Words.{Headword, alphabet}
 use Rattle.words.specs.declared.word.Word.{Word}
 use Rattle.words.specs.Views.{headword}
 use Rattle.patterns.specs.Spellings.{longest, any_above_zero}
@@ -16,6 +16,12 @@ letters_length w = length-take-le w.len w.letters (omega (arith, w.full, w.sized
 pub padded_length : (w : Headword) → length (padded w) ≡ length w.0 + 2
 padded_length w = let e = length-append w.0 (0 ∷ []) in omega arith
 
+-- a letter
+pub padded_letter : (w : Word) (p : ℕ) → p < w.len → get_or (padded (headword w)) (suc p) 0 ≡ get_or w.letters p 0
+padded_letter w p h =
+    let e = letters_length w in
+    get_or_append_left (take w.len w.letters) (0 ∷ []) 0 p (omega arith) ∙ get_or-take w.len w.letters p 0 h
+
 -- an edge, or what lies beyond it
 lone : (k : ℕ) → get_or {A = ℕ} (0 ∷ []) k 0 ≡ 0
 lone zero = refl
@@ -26,6 +32,23 @@ padded_edge w zero h = refl
 padded_edge w (suc p) (inl h) = absurd (omega arith)
 padded_edge w (suc p) (inr h) =
     get_or-append_right (take w.len w.letters) (0 ∷ []) w.len p 0 (letters_length w) (omega arith) ∙ lone (p - w.len)
+
+pub padded_at : (w : Word) (p : ℕ) → 1 ≤ p → p ≤ w.len → get_or w.letters (p - 1) 0 ≡ get_or (padded (headword w)) p 0
+padded_at w zero l h = absurd (omega arith)
+padded_at w (suc p) l h = let e : suc p - 1 ≡ p = omega arith in ap (λ (q : ℕ). get_or w.letters q 0) e ∙ sym (padded_letter w p (omega arith))
+
+-- every symbol of a padded word is one, and those between the edges are letters
+pub padded_symbol : (w : Word) (p : ℕ) → get_or (padded (headword w)) p 0 ≤ alphabet
+padded_symbol w zero = omega arith
+padded_symbol w (suc p) =
+    ⊎_elim
+    (λ (h : p < w.len). let e = padded_letter w p h in omega (arith, (w.lettered p h).1))
+    (λ (h : w.len ≤ p). let e = padded_edge w (suc p) (inr (omega arith)) in omega arith)
+    (cases_lt p w.len)
+
+pub padded_inner : (w : Word) (p : ℕ) → 0 < p → p ≤ w.len → 0 < get_or (padded (headword w)) p 0
+padded_inner w zero l h = absurd (omega arith)
+padded_inner w (suc p) l h = let h' : p < w.len = omega arith in let e = padded_letter w p h' in omega (arith, (w.lettered p h').0)
 
 -- ---- the symbols of a part in an array, and then only 0
 

@@ -11,6 +11,7 @@ use Rattle.patterns.specs.declared.reading.Piece.{Piece}
 use Rattle.patterns.specs.declared.reading.Piece.TheVariants.{Symbol, Digit}
 use Rattle.patterns.specs.Texts.{digit, byte_of, text_to, text_of, piece_of, piece_at, symbol_in, with_value, symbols_to, values_to, after_digit, shut, offends, offends_at, or_else, first_to, spells, reading_by, lacking, reading}
 use Rattle.patterns.specs.declared.pattern.Pattern.{Pattern}
+use Rattle.patterns.proofs.Bytes.{digit_le}
 use Rattle.patterns.proofs.Spells.{above_front, Front, front_none, front_more, Sound, sound, bytes, Bytes, inverse, no_offence}
 
 -- ---- a text depends on the symbols before its place, and on the values up to it
@@ -190,6 +191,12 @@ written_then_read w v =
     ∙ ap₂ (λ (x y : List ℕ). spells ((x, y))) s.symbols s.values
 
 -- ---- a pattern of the program keeps the rules
+
+-- a text has a byte at most for each value, and one for each symbol
+pub text_short : (ss vs : List ℕ) (k : ℕ) → length (text_to ss vs k) ≤ 1 + k + k
+unfolding text_to
+text_short ss vs zero = digit_le (get_or vs 0 0)
+text_short ss vs (suc k) = omega (arith, text_short ss vs k, length-append (text_to ss vs k) (byte_of (get_or ss k 0) ∷ digit (get_or vs (suc k) 0)), digit_le (get_or vs (suc k) 0))
 
 pub valid_of : (p : Pattern) → length p.spelling.symbols ≡ longest → length p.row.values ≡ places → Valid (spelled p)
 valid_of p e f =

@@ -40,9 +40,20 @@ fn line_length(prefix: &[u8], figures: &[u64]) -> u128
     let commas = figures.len().saturating_sub(1);
     let mut total = prefix.len() as u128 + commas as u128;
     for figure in figures {
-        total += Buffer::new().format(*figure).len() as u128;
+        total += digits(*figure) as u128;
     }
     total
+}
+
+/// How many digits a number has in decimal. Most figures of a line have one, which needs no buffer.
+fn digits(n: u64) -> usize
+    ensures { result ≡ length (decimal n) }
+{
+    if n < 10 {
+        1
+    } else {
+        Buffer::new().format(n).len()
+    }
 }
 
 // The place is handed on beside the memory: of a struct with both, the proof loses that it holds the lent memory to the end.
@@ -70,6 +81,9 @@ fn put_number(memory: &mut [u8], at: usize, n: u64) -> usize
     ensures end { result ≡ at + length (decimal n) }
     ensures text { memory.new ≡ overlaid memory.old at (decimal n) }
 {
+    if n < 10 {
+        return put(memory, at, &[b'0' + n as u8]);
+    }
     put(memory, at, Buffer::new().format(n).as_bytes())
 }
 

@@ -26,18 +26,26 @@ fn is_letter(symbol: u8) -> bool
     symbol >= 1 && symbol <= ALPHABET
 }
 
-// Whether all are symbols of letters.
+// Whether all are symbols of letters. No turn is left out, here and below, so that many symbols are tested at once.
 fn are_letters(symbols: &[u8]) -> bool
     ensures { result ≡ list_all is_symbol symbols.now }
 {
-    symbols.iter().all(|symbol| is_letter(*symbol))
+    let mut fit = true;
+    for symbol in symbols {
+        fit &= is_letter(*symbol);
+    }
+    fit
 }
 
 // Whether all are 0, as symbols that a word does not use.
 fn are_unused(symbols: &[u8]) -> bool
     ensures { result ≡ list_all (λ s. s == 0) symbols.now }
 {
-    symbols.iter().all(|symbol| *symbol == 0)
+    let mut fit = true;
+    for symbol in symbols {
+        fit &= *symbol == 0;
+    }
+    fit
 }
 
 // Whether `len` letters come first, and then only 0.
