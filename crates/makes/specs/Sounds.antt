@@ -14,7 +14,7 @@ use Rattle.tree.specs.Rules.{Ruled}
 use Rattle.tree.specs.Meanings as tree
 use Rattle.tree.specs.RowKind.{row_kind, no_row}
 use Rattle.tree.specs.Stands.{Stands}
-use Rattle.tree.specs.declared.linked.Linked.{Linked}
+use Rattle.tree.specs.declared.tree.Tree.{Tree}
 use Rattle.tree.proofs.Props.{standing}
 use Rattle.tree.proofs.Putting.{bare_not}
 use Rattle.tree.proofs.Works.{means_sound}
@@ -51,7 +51,7 @@ book_sound m s r b = record {
 }
 
 -- rows in a tree that stands, and none has a value beyond its spelling's last place
-pub tree_sound : (t : Linked Row) (count : ℕ) → ∥ Stands row_kind t.cells.now t.used count ∥₁ → Bounded (rows t) → Sound (booked t)
+pub tree_sound : (t : Tree Row) (count : ℕ) → ∥ Stands row_kind t.cells.now t.used count ∥₁ → Bounded (rows t) → Sound (booked t)
 tree_sound t count s b =
     let u = standing row_kind t count s in
     book_sound (rows t) (means_sound row_kind t.cells.now t.used u.tree) u.ruled b

@@ -17,6 +17,7 @@ mod tests {
     use std::process::Abort;
     use std::test::Fail;
     use tree::cell::{Cell, Link};
+    use tree::tree::Tree;
 
     // A cell with links that lead astray.
     fn old_cell<V: Copy>(value: V) -> Cell<V> {
@@ -75,6 +76,22 @@ mod tests {
         assert_eq!(rt; tally.count(), 0);
         assert!(rt; tally.least().is_none());
         Ok(())
+    }
+
+    #[test]
+    fn any_cells_have_a_limit_and_can_be_emptied(rt: HostRuntime) -> Result<(), Fail> {
+        let mut tree = Tree {
+            cells: &mut [old_cell(counts(1, 2)); 31],
+            used: 99,
+            count: 99,
+        };
+        assert_eq!(rt; tree.limit(), 2);
+        tree.empty();
+        assert_eq!(rt; tree.count(), 0);
+        let ab = read(b"a1b")?.spelling;
+        assert!(rt; tree.join(&ab, counts(3, 4)).is_ok());
+        assert_eq!(rt; tree.value(&ab).bad, 4);
+        is(&rt, tree.least(), b"a1b")
     }
 
     #[test]

@@ -1,5 +1,5 @@
 -- What a tree keeps is a proposition, so that it comes out of a truncation.
-use Rattle.std.proofs.Common.{ℕ, ◌≢◌, List, [], ◌∷◌}
+use Rattle.std.proofs.Common.{◌≡◌, ℕ, ◌≢◌, List, [], ◌∷◌, subst}
 use mathlib.Core.Logic.{∥∥₁_elim}
 use mathlib.Core.Bool.{Bool-set}
 use mathlib.Core.HLevel.{⊥_prop, ×_prop, ×₃_prop, Π_prop}
@@ -9,6 +9,7 @@ use Rattle.std.specs.List.{AllByRecursion}
 use Rattle.tree.specs.declared.cell.Link.{Link}
 use Rattle.tree.specs.declared.cell.Cell.{Cell}
 use Rattle.tree.specs.declared.linked.Linked.{Linked}
+use Rattle.tree.specs.declared.tree.Tree.{Tree}
 use Rattle.tree.specs.Cells.{links, ups, Shape, IsTree}
 use Rattle.tree.specs.Kinds.{Kind}
 use Rattle.tree.specs.Rules.{Ruled}
@@ -61,5 +62,10 @@ module _ {V : Type 0} (K : Kind V) (cs : List (Cell V)) (used count : ℕ) where
 pub tree_of : {V : Type 0} (t : Linked V) → IsTree t.cells.now t.used
 tree_of t = ∥∥₁_elim t.tree (shape_prop (links t.cells.now) (ups t.cells.now t.used) t.used) (λ x. x)
 
-pub standing : {V : Type 0} (K : Kind V) (t : Linked V) (count : ℕ) → ∥ Stands K t.cells.now t.used count ∥₁ → Stands K t.cells.now t.used count
+pub standing : {V : Type 0} (K : Kind V) (t : Tree V) (count : ℕ) → ∥ Stands K t.cells.now t.used count ∥₁ → Stands K t.cells.now t.used count
 standing K t count s = stands_from K t.cells.now t.used count s
+
+-- what is true of cells is true of cells that equal them
+module _ {V : Type 0} {cs cs' : List (Cell V)} {used used' : ℕ} (P : List (Cell V) → ℕ → Type 0) where
+  pub over : cs' ≡ cs → used' ≡ used → P cs' used' → P cs used
+  over e f p = subst (P cs) f (subst (λ (x : List (Cell V)). P x used') e p)

@@ -1,11 +1,10 @@
 //! A tree that holds nothing.
-ghost use Rattle.std.specs.Prelude.{◌≡◌, [], length};
+ghost use Rattle.std.specs.Prelude.{◌≡◌, []};
 ghost use Rattle.tree.specs.Meanings.{meaning};
 ghost use Rattle.tree.specs.Stands.{Stands};
 
 use crate::cell::{Cell, Link};
 use crate::joining::Joining;
-use crate::linked::Linked;
 
 // Makes cells of any contents a tree that holds nothing, and answers how many are in use.
 pub(crate) fn clear<V: Joining>(cells: &mut [Cell<V>]) -> usize
@@ -26,14 +25,4 @@ pub(crate) fn clear<V: Joining>(cells: &mut [Cell<V>]) -> usize
         value: V::nothing(),
     };
     1
-}
-
-impl<'a, V: Joining> Linked<'a, V> {
-    pub(crate) fn clear(&mut self)
-        ensures stands { Stands V.kind self.new.cells.now self.new.used 0 }
-        ensures none { meaning V.kind self.new.cells.now self.new.used ≡ [] }
-        ensures size { length self.new.cells.now ≡ length self.old.cells.now }
-    {
-        self.used = clear(self.cells);
-    }
 }

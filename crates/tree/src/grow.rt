@@ -7,7 +7,7 @@ use crate::cell::{Cell, Link};
 use crate::search::Place;
 
 // Puts the next cell, with `symbol` and `value`, into its place among the children of `parent`. Between its two writes the
-// cells are no tree, so that it takes the slice.
+// cells are no tree.
 pub(crate) fn insert<V: Copy>(
     cells: &mut [Cell<V>],
     used: usize,

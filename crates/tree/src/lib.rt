@@ -11,4 +11,5 @@ pub mod linked;
 mod order;
 pub mod rows;
 mod search;
+pub mod standing;
 pub mod tree;

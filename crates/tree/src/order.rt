@@ -7,6 +7,7 @@ ghost use Rattle.books.specs.Calls.{spelling};
 ghost use Rattle.tree.specs.Cells.{links, ups, at};
 ghost use Rattle.tree.specs.Paths.{spelling_at};
 ghost use Rattle.tree.specs.Holds.{held};
+ghost use Rattle.tree.specs.Stands.{Stands};
 ghost use Rattle.tree.specs.Leasts.{Written, turning, Next, FirstFrom};
 
 use crate::joining::Joining;
@@ -82,12 +83,13 @@ impl<'a, V: Copy> Linked<'a, V> {
 impl<'a, V: Joining> Tree<'a, V> {
     // The first spelling held from that of a cell on.
     fn first_from(&self, way: Way) -> Spelling
+        requires stands { Stands V.kind self.now.cells.now self.now.used self.now.count }
         requires inner { 0 < way.cell }
-        requires within { way.cell < self.now.linked.used }
-        requires written { Written (spelling_at self.now.linked.cells.now self.now.linked.used way.cell) way.len way.symbols }
-        ensures { FirstFrom V.kind self.now.linked.cells.now self.now.linked.used way.cell (symbols_of result) }
+        requires within { way.cell < self.now.used }
+        requires written { Written (spelling_at self.now.cells.now self.now.used way.cell) way.len way.symbols }
+        ensures { FirstFrom V.kind self.now.cells.now self.now.used way.cell (symbols_of result) }
     {
-        let cells = &*self.linked.cells;
+        let cells = &*self.cells;
         let mut at = way.cell;
         let mut len = way.len;
         let mut symbols = way.symbols;
@@ -102,10 +104,12 @@ impl<'a, V: Joining> Tree<'a, V> {
 
     // The first spelling held of those that come after another.
     pub(crate) fn first_after(&self, other: &[u8]) -> Option<Spelling>
-        ensures { spelling result ≡ least_of (after other.now (held V.kind self.now.linked)) }
+        requires { Stands V.kind self.now.cells.now self.now.used self.now.count }
+        ensures { spelling result ≡ least_of (after other.now (held V.kind self.now)) }
     {
-        let turn = self.linked.next_cell(other)?;
-        let way = self.linked.way_to(other, turn);
+        let linked = self.linked();
+        let turn = linked.next_cell(other)?;
+        let way = linked.way_to(other, turn);
         Some(self.first_from(way))
     }
 }

@@ -7,6 +7,6 @@ use Rattle.makes.proofs.booking.TreeBookReadingBook.least_after.Goals as goal
 
 pub returns : goal.returns
 returns c =
-    let m = rows c.args.self.now.tree.linked in
+    let m = rows c.args.self.now.standing.tree in
     let u = symbols_of c.args.other.now in
     c.least_after.ensures ∙ sym (ap least_of (book_after u m) ∙ book_least (after u m))

@@ -6,4 +6,4 @@ use Rattle.makes.proofs.Booked.{book_lookup}
 use Rattle.makes.proofs.booking.TreeBookReadingBook.row.Goals as goal
 
 pub returns : goal.returns
-returns c = ap (λ (r : Row). r.values) c.value.ensures ∙ sym (book_lookup (rows c.args.self.now.tree.linked) (symbols_of c.args.spelling.now))
+returns c = ap (λ (r : Row). r.values) c.value.ensures ∙ sym (book_lookup (rows c.args.self.now.standing.tree) (symbols_of c.args.spelling.now))

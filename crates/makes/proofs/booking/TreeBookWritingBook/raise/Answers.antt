@@ -26,15 +26,15 @@ bounded m n limit u r z b (Err full) j = subst Bounded (sym j.1) b
 
 pub invariant_of-self : goal.invariant_of-self
 invariant_of-self c =
-    let t = c.args.self.now.tree.linked in
+    let t = c.args.self.now.standing.tree in
     let p = c.args.pattern.now in
-    record { bounded = bounded (rows t) (rows c.join.new.self.linked) (limit_of (length t.cells.now)) (symbols_of p.spelling) p.row (valid_of p p.spelling.full p.row.full).within c.args.self.now.bounded c.join.result c.join.ensures.added }
+    record { bounded = bounded (rows t) (rows c.join.new.self.tree) (limit_of (length t.cells.now)) (symbols_of p.spelling) p.row (valid_of p p.spelling.full p.row.full).within c.args.self.now.bounded c.join.result c.join.ensures.added }
 
 pub returns : goal.returns
 returns c =
-    let t = c.args.self.now.tree.linked in
+    let t = c.args.self.now.standing.tree in
     let p = c.args.pattern.now in
     record {
       limit = ap limit_of c.join.ensures.cells;
-      held = raising (rows t) (rows c.join.new.self.linked) (limit_of (length t.cells.now)) (symbols_of p.spelling) p.row c.join.result c.join.ensures.added;
+      held = raising (rows t) (rows c.join.new.self.tree) (limit_of (length t.cells.now)) (symbols_of p.spelling) p.row c.join.result c.join.ensures.added;
     }

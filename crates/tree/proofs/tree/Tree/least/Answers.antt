@@ -1,6 +1,5 @@
 use Rattle.std.proofs.Common.{[], ap, ◌∙◌}
 use Rattle.books.specs.Maps.{least_of}
-use Rattle.tree.proofs.Props.{standing}
 use Rattle.tree.proofs.Leasts.{after_none}
 use Rattle.tree.proofs.tree.Tree.least.Goals as goal
 
@@ -8,4 +7,4 @@ pub returns : goal.returns
 returns g c =
     let t = c.args.self.now in
     let K = g.V.Joining.kind in
-    c.first_after.ensures ∙ ap least_of (after_none K t.linked.cells.now t.linked.used t.count (standing K t.linked t.count t.stands) [])
+    c.first_after.ensures ∙ ap least_of (after_none K t.cells.now t.used t.count c.requires [])
