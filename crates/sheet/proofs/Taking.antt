@@ -15,11 +15,11 @@ use Rattle.text.proofs.Ends.{stands_next}
 use Rattle.sheet.specs.declared.fault.SheetFault.{SheetFault}
 use Rattle.sheet.specs.Faults.{sheet_refused}
 use Rattle.sheet.specs.Sheets.{is_empty, first_empty, has_figures}
-use Rattle.sheet.specs.Taken.{Passed, Taken}
+use Rattle.sheet.specs.Taken.{Passed, PassedOn, Taken}
 
 module _ (before after : Lines) (line : Bor (List ℕ)) (next : NextLine before (Some line) after) where
-  passed : Passed before line.now after
-  passed = (next.1, begins_behind (unread before) line.now (unread after) next.0, next.2, stands_next before after line next)
+  passed : PassedOn before line.now after
+  passed = ((next.1, begins_behind (unread before) line.now (unread after) next.0, next.2), stands_next before after line next)
 
   -- what `read` gives of the line
   pub taken_by : {F T : Type 0} (g : Once F (Bor (List ℕ) × Unit {0}) (Option T)) (read : F) (given : Option T) (f : SheetFault) → sheet_refused f ≡ at_line 16 (before.number + 1) → g.post read (line, tt) given → Taken g read before (ok_or given f) after
@@ -27,18 +27,18 @@ module _ (before after : Lines) (line : Bor (List ℕ)) (next : NextLine before 
   taken_by g read (Some value) f e p = (line.now, passed, (line, p, refl))
 
 -- nothing was left, or the first line is no figures
-pub not_figures : (before after : Lines) (n : ℕ) → ((unread before ≡ []) × (after ≡ before)) ⊎ ((line : List ℕ) × Passed before line after × (figures_of n (pieces line) ≡ None)) → has_figures n (get_or (lines_of (unread before)) 0 []) ≡ false
+pub not_figures : (before after : Lines) (n : ℕ) → (unread before ≡ []) ⊎ ((line : List ℕ) × Passed before line after × (figures_of n (pieces line) ≡ None)) → has_figures n (get_or (lines_of (unread before)) 0 []) ≡ false
 unfolding lines_of
 not_figures before after n h =
-    ⊎_elim (λ p. ap (λ (t : List ℕ). has_figures n (get_or (lines_of t) 0 [])) p.0)
+    ⊎_elim (λ (e : unread before ≡ []). ap (λ (t : List ℕ). has_figures n (get_or (lines_of t) 0 [])) e)
     (λ p. ap (λ (ls : List (List ℕ)). has_figures n (get_or ls 0 [])) p.1.0 ∙ ap is_some p.2)
     h
 
 -- nothing was left, or the first line is not empty
-pub not_empty : (before after : Lines) → ((unread before ≡ []) × (after ≡ before)) ⊎ ((line : List ℕ) × Passed before line after × (is_empty line ≡ false)) → first_empty (lines_of (unread before)) ≡ false
+pub not_empty : (before after : Lines) → (unread before ≡ []) ⊎ ((line : List ℕ) × Passed before line after × (is_empty line ≡ false)) → first_empty (lines_of (unread before)) ≡ false
 unfolding lines_of
 not_empty before after h =
-    ⊎_elim (λ p. ap (λ (t : List ℕ). first_empty (lines_of t)) p.0)
+    ⊎_elim (λ (e : unread before ≡ []). ap (λ (t : List ℕ). first_empty (lines_of t)) e)
     (λ p. ap first_empty p.1.0 ∙ p.2)
     h
 

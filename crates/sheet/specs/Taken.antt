@@ -9,14 +9,18 @@ use Rattle.text.specs.Cursor.{unread, Follows}
 use Rattle.sheet.specs.declared.fault.SheetFault.{SheetFault}
 use Rattle.sheet.specs.Faults.{sheet_refused}
 
--- the first line that was left is this one, and the reader stands behind it, in whatever text it stood before
+-- the first line that was left is this one, and the reader stands behind it
 abbrev pub Passed : Lines → List ℕ → Lines → Type 0
 Passed before line after =
-    (lines_of (unread before) ≡ line ∷ lines_of (unread after)) × (behind_line (unread before) ≡ unread after) × (after.number ≡ before.number + 1) × Follows before after
+    (lines_of (unread before) ≡ line ∷ lines_of (unread after)) × (behind_line (unread before) ≡ unread after) × (after.number ≡ before.number + 1)
+
+-- and there it stands in whatever text it stood before
+abbrev pub PassedOn : Lines → List ℕ → Lines → Type 0
+PassedOn before line after = Passed before line after × Follows before after
 
 -- the next line gives `read` a value; or it gives none, or is missing, and then the reader stays where it is
 abbrev pub Taken : {F T : Type 0} → Once F (Bor (List ℕ) × Unit {0}) (Option T) → F → Lines → Result T SheetFault → Lines → Type 0
-Taken g read before (Ok value) after = (line : List ℕ) × Passed before line after × FnOnceReturnsAt g read line (Some value)
+Taken g read before (Ok value) after = (line : List ℕ) × PassedOn before line after × FnOnceReturnsAt g read line (Some value)
 Taken g read before (Err f) after =
     (sheet_refused f ≡ at_line 16 (before.number + 1))
-    × (((unread before ≡ []) × (after ≡ before)) ⊎ ((line : List ℕ) × Passed before line after × FnOnceReturnsAt g read line None))
+    × (((unread before ≡ []) × (after ≡ before)) ⊎ ((line : List ℕ) × PassedOn before line after × FnOnceReturnsAt g read line None))
